@@ -1,0 +1,39 @@
+ghost use Rattle.std.specs.Prelude.{◌≡◌};
+ghost use Rattle.pattern_data.specs.Bytes.{IsByteSet};
+
+use std::marker::Model;
+
+/// The number of words that hold one bit for each byte.
+pub const WORDS: usize = 4;
+
+/// A set of bytes that isn't empty and doesn't have the line feed.
+///
+/// Contracts see its four words, and read them by `IsMember`: bit `b % 64` of word `b / 64` says whether byte `b` is
+/// in the set.
+#[derive(Clone, Copy, Debug, PartialEq, Eq)]
+pub struct ByteSet {
+    words: [u64; WORDS],
+}
+
+impl Model for ByteSet {
+    ghost use Rattle.std.specs.Prelude.{ℕ, List};
+    ghost use Rattle.pattern_data.specs.Bytes.{IsByteSet};
+
+    ghost Value = { List ℕ };
+
+    ghost view = { λ s. s.words };
+
+    ghost invariant = { λ s. IsByteSet s.words };
+
+    ghost inverse = { λ ws. record { words = ws } };
+}
+
+impl ByteSet {
+    /// The set that these words say.
+    pub fn from_words(words: [u64; WORDS]) -> ByteSet
+        requires { IsByteSet words }
+        ensures { result ≡ words }
+    {
+        ByteSet { words }
+    }
+}
