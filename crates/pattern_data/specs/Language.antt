@@ -1,5 +1,5 @@
 -- The language of a pattern: the byte strings that it matches.
-use Rattle.std.specs.Prelude.{◌≡◌, ℕ, sum, List, [], ◌∷◌, ◌++◌, map, Contains}
+use Rattle.std.specs.Prelude.{◌≡◌, ◌≢◌, ℕ, ◌<◌, sum, List, [], ◌∷◌, ◌++◌, map, All, Contains}
 use Rattle.pattern_data.specs.declared.pattern.Pattern.{Pattern, Pattern-F, out-Pattern, fold-Pattern}
 use Rattle.pattern_data.specs.declared.pattern.Pattern.TheOpen.Pattern-F.{Set, Seq, Alt, Star, Plus, Opt}
 use Rattle.pattern_data.specs.declared.pattern.Pattern.TheVariants.{Set as set_pattern, Seq as seq_pattern}
@@ -46,3 +46,12 @@ abbrev pub literal_pattern : List ℕ → Pattern
 literal_pattern [] = seq_pattern []
 literal_pattern (byte ∷ []) = byte_pattern byte
 literal_pattern (byte ∷ second ∷ bytes) = seq_pattern (map byte_pattern (byte ∷ second ∷ bytes))
+
+-- a byte of a literal: any but the line feed
+abbrev pub IsLiteralByte : ℕ → Type 0
+IsLiteralByte byte = (byte < 256) × (byte ≢ 10)
+
+-- the bytes of a literal: there are some
+pub record IsLiteral (bytes : List ℕ) : Type 0 where
+  pub some : bytes ≢ []
+  pub each : All IsLiteralByte bytes

@@ -1,5 +1,5 @@
-ghost use Rattle.std.specs.Prelude.{◌≡◌};
-ghost use Rattle.pattern_data.specs.Bytes.{IsByteSet};
+ghost use Rattle.std.specs.Prelude.{◌≡◌, ◌≢◌, ℕ, ◌≤◌};
+ghost use Rattle.pattern_data.specs.Bytes.{IsByteSet, IsMember, only_byte};
 
 use std::marker::Model;
 
@@ -35,5 +35,28 @@ impl ByteSet {
         ensures { result ≡ words }
     {
         ByteSet { words }
+    }
+
+    /// The set of one byte, which isn't the line feed.
+    pub fn only(byte: u8) -> ByteSet
+        requires { byte ≢ 10 }
+        ensures { result ≡ only_byte byte }
+    {
+        let mut words = [0; WORDS];
+        words[byte as usize / 64] = 1 << (byte % 64);
+        ByteSet { words }
+    }
+
+    /// The least byte of the set.
+    pub fn first(&self) -> u8
+        ensures member { IsMember self.now result }
+        ensures least { (byte : ℕ) → IsMember self.now byte → result ≤ byte }
+    {
+        for (index, word) in self.words.iter().enumerate() {
+            if *word != 0 {
+                return (64 * index + word.trailing_zeros() as usize) as u8;
+            }
+        }
+        unreachable!()
     }
 }

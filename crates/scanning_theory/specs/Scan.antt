@@ -1,5 +1,5 @@
 -- The tokens of a text, by the patterns of a sheet in order of rank (longest match, ties to the least rank).
-use Rattle.std.specs.Prelude.{◌≡◌, ℕ, ◌+◌, ◌<◌, ◌≤◌, List, [], ◌∷◌, ◌++◌, length, take, drop, slice_get, Some}
+use Rattle.std.specs.Prelude.{◌≡◌, ℕ, ◌+◌, ◌<◌, ◌≤◌, List, [], ◌∷◌, ◌++◌, length, take, drop, slice_get, Some, Bool, true, false, count_by}
 use Rattle.grammar_data.specs.declared.token.Token.{Token}
 use Rattle.pattern_data.specs.declared.pattern.Pattern.{Pattern}
 use Rattle.pattern_data.specs.declared.pattern.Meaning.{Meaning}
@@ -30,6 +30,15 @@ pub record Scanning : Type 0 where
   pub patterns : List Pattern
   pub means : List Meaning
   pub tokens : ℕ
+
+-- a meaning that is a token, and no skip
+abbrev pub is_token : Meaning → Bool
+is_token (token_meaning id) = true
+is_token skip_meaning = false
+
+-- the number of tokens among the meanings
+abbrev pub token_count : List Meaning → ℕ
+token_count means = count_by is_token means
 
 -- the token of a byte that no pattern begins
 abbrev pub bad_byte : Scanning → ℕ

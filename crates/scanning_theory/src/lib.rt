@@ -1,2 +1,6 @@
 //! Scanning: which tokens a text has by the patterns of a sheet. Definitions and laws alone.
 #![tactic(auto)]
+
+mod laws;
+
+pub use laws::{cutting_law, line_starts_law, longest_law, one_list_law, some_list_law};

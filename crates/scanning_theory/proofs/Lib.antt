@@ -1,0 +1,4 @@
+pub mod NotRefuted
+pub mod ScanLemmas
+pub mod SomeList
+pub mod StartLemmas
