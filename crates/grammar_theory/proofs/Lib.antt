@@ -1,0 +1,11 @@
+pub mod Lists
+pub mod RuleLemmas
+pub mod DerivationLemmas
+pub mod StepLemmas
+pub mod TreeLemmas
+pub mod UsefulLemmas
+pub mod EmptyLemmas
+pub mod FirstLemmas
+pub mod SizeLemmas
+pub mod DerivationLaws
+pub mod NameLaws

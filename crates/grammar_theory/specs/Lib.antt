@@ -1,0 +1,6 @@
+pub mod Rules
+pub mod Derivations
+pub mod Trees
+pub mod UsefulNames
+pub mod EmptyNames
+pub mod FirstTokens

@@ -1,0 +1,66 @@
+//! Derivations of a grammar: which token lists it derives, what goes on, and which names are productive, reachable and
+//! nullable. Definitions and laws alone.
+#![tactic(auto)]
+
+ghost use Rattle.grammar_theory.specs.Derivations.{AppendLaw, SplitLaw, FoldLaw, MoreRulesLaw, WordLaw, StepsLaw, TokensLaw, EndLaw};
+ghost use Rattle.grammar_theory.specs.Trees.{TreesLaw, TreeLaw, SentenceLaw};
+ghost use Rattle.grammar_theory.specs.UsefulNames.{ProductiveTreeLaw, ProductiveRuleLaw, ProductiveTestLaw, ReachableLaw, ReachableTestLaw};
+ghost use Rattle.grammar_theory.specs.EmptyNames.{EmptyTreeLaw, NullableSizeLaw, OneSizeLaw, NullableRuleLaw, NullableListLaw, NullableTestLaw, FirstRoundLaw, RoundLaw, NextRoundLaw, UnsizedLaw, SizeTableLaw, SizedLaw};
+ghost use Rattle.grammar_theory.specs.FirstTokens.{FirstLaw, FollowsLaw, FoundPartsLaw, FirstRuleLaw, FirstTableLaw};
+
+/// Derivations are joined, split and folded, and agree with steps.
+pub fn derivation_laws()
+    ensures append { AppendLaw }
+    ensures split { SplitLaw }
+    ensures fold { FoldLaw }
+    ensures more_rules { MoreRulesLaw }
+    ensures word { WordLaw }
+    ensures steps { StepsLaw }
+    ensures tokens { TokensLaw }
+    ensures end { EndLaw }
+{}
+
+/// Derivation trees agree with derivations.
+pub fn tree_laws()
+    ensures trees { TreesLaw }
+    ensures tree { TreeLaw }
+    ensures sentence { SentenceLaw }
+{}
+
+/// Productive and reachable names are found by rules, and known exactly by closed tests.
+pub fn useful_name_laws()
+    ensures productive_tree { ProductiveTreeLaw }
+    ensures productive_rule { ProductiveRuleLaw }
+    ensures productive_test { ProductiveTestLaw }
+    ensures reachable { ReachableLaw }
+    ensures reachable_test { ReachableTestLaw }
+{}
+
+/// Nullable names are found by rules, and known exactly by a closed test.
+pub fn nullable_laws()
+    ensures rule { NullableRuleLaw }
+    ensures list { NullableListLaw }
+    ensures test { NullableTestLaw }
+    ensures size { NullableSizeLaw }
+{}
+
+/// Empty sizes are those of empty trees, and found in rounds or by a table that no rule improves.
+pub fn empty_size_laws()
+    ensures tree { EmptyTreeLaw }
+    ensures one { OneSizeLaw }
+    ensures first_round { FirstRoundLaw }
+    ensures round { RoundLaw }
+    ensures next_round { NextRoundLaw }
+    ensures none_below { UnsizedLaw }
+    ensures table { SizeTableLaw }
+    ensures sized { SizedLaw }
+{}
+
+/// First tokens are found by symbols and by rules, and known exactly by a closed table.
+pub fn first_token_laws()
+    ensures first { FirstLaw }
+    ensures follows { FollowsLaw }
+    ensures found_parts { FoundPartsLaw }
+    ensures rule { FirstRuleLaw }
+    ensures table { FirstTableLaw }
+{}

@@ -1,0 +1,12 @@
+pub mod ItemLemmas
+pub mod ChainLemmas
+pub mod LeadLemmas
+pub mod ClosureLemmas
+pub mod RangeLemmas
+pub mod OrderLemmas
+pub mod StateLemmas
+pub mod WalkLemmas
+pub mod SearchLemmas
+pub mod ItemLaws
+pub mod StateLaws
+pub mod CollectionLaws

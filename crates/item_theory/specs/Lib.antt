@@ -1,0 +1,5 @@
+pub mod Items
+pub mod Chains
+pub mod LeadingWords
+pub mod Search
+pub mod Collections
