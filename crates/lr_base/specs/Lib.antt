@@ -1,1 +1,11 @@
+pub mod Counts
+pub mod Files
+pub mod Marks
+pub mod MemShelf
 pub mod Outside
+pub mod Reading
+pub mod MemSink
+pub mod SteadyShelf
+pub mod IsGrammar
+pub mod TokenSet
+pub mod FileShelf

@@ -25,7 +25,8 @@ IsSteadyIf test result = IsTrue test → IsOk result
 abbrev pub HasSureRoom : Option (List ℕ) → ℕ → ℕ → Type 0
 HasSureRoom taken room faults = IfSome taken (λ bytes. length bytes < room → faults ≡ 0)
 
--- told bytes grew by the first bytes of the text alone: by none, by some or by all of them
-pub record AppendsPrefix (before now : Option (List ℕ)) (text : List ℕ) : Type 0 where
+-- told bytes grew by a part of the text: by none or some of its first bytes, but not by all
+pub record AppendsPart (before now : Option (List ℕ)) (text : List ℕ) : Type 0 where
   pub count : ℕ
+  pub short : count < length text
   pub grown : Appends before now (take count text)

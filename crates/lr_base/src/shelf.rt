@@ -10,7 +10,7 @@ use crate::errors::Failed;
 /// A shelf that tells its bytes says in `stands` what stands under each name, and in `left` which bytes of the begun
 /// name were not read yet; where it doesn't tell them, or nothing stands there, that is `None`. `faults` counts the
 /// calls that failed; as a number of 64 bits it stands still at its greatest value. `served` lists the names for which
-/// neither `begin` nor a `read` after it fails, and `serving` says whether the last `begin` was of such a name.
+/// neither `begin` nor a `read` after it fails; where `serving` is true, no `read` fails until the next `begin`.
 pub trait Shelf {
     ghost stands: { Self → List ℕ → Option (List ℕ) };
 

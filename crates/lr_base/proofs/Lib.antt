@@ -1,0 +1,3 @@
+pub mod FileLemmas
+pub mod GrammarLemmas
+pub mod TokenSetLemmas
