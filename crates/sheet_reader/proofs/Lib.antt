@@ -1,0 +1,10 @@
+pub mod Cuts
+pub mod Indexed
+pub mod Places
+pub mod RankLemmas
+pub mod ReadLemmas
+pub mod RuleLines
+pub mod SheetLemmas
+pub mod TextLemmas
+pub mod TokenChecks
+pub mod TokenLines
