@@ -1,0 +1,5 @@
+pub mod AnswerLemmas
+pub mod BlockLemmas
+pub mod CallLemmas
+pub mod InputLemmas
+pub mod WordLemmas

@@ -1,0 +1,50 @@
+-- What the program answers: one relation between what it was given (its words, and the bytes that it had to read) and its
+-- status with the bytes that its output and its error output take.
+use Rattle.std.specs.Prelude.{◌≡◌, ℕ, ◌<◌, ◌≤◌, List, [], ◌∷◌, length, codes}
+use Rattle.grammar_data.specs.declared.token.Token.{Token}
+use Rattle.scanning_theory.specs.Scan.{AreTokens}
+use Rattle.sheet_data.specs.Sheet.{Sheet}
+use Rattle.sheet_theory.specs.ScanOrder.{scanning_of}
+use Rattle.sheet_theory.specs.TokenList.{token_list}
+use Rattle.sheet_reader.specs.FirstForm.{IsFirstForm}
+use Rattle.lrpar_cli.specs.declared.status.Status.{Status}
+use Rattle.lrpar_cli.specs.declared.status.Status.TheVariants.{Done, Words, Sheet as refused_sheet, TextTooLong}
+use Rattle.lrpar_cli.specs.Words.{Command, Tokens, HasForm, IsBadWords}
+
+-- the most bytes that a text may have
+abbrev pub text_limit : ℕ
+text_limit = 8388608
+
+abbrev pub bad_words_text : List ℕ
+bad_words_text = codes "bad words\n"
+
+abbrev pub sheet_form_text : List ℕ
+sheet_form_text = codes "sheet form not built\n"
+
+abbrev pub long_text_text : List ℕ
+long_text_text = codes "text too long\n"
+
+abbrev pub read_fault_text : List ℕ
+read_fault_text = codes "read fault\n"
+
+abbrev pub write_fault_text : List ℕ
+write_fault_text = codes "write fault\n"
+
+-- the bytes are a sheet's
+abbrev pub Accepts : List ℕ → Sheet → Type 0
+Accepts bytes sheet = IsFirstForm bytes sheet
+
+-- the bytes are no sheet's, and this is said of them
+pub data Refuses (bytes : List ℕ) : List ℕ → Type 0 where
+  form_not_built : ((sheet : Sheet) → ¬ (Accepts bytes sheet)) → Refuses bytes sheet_form_text
+
+-- what a command answers where these inputs had to be read, under the first of its names in their order
+pub data Answers : Command → List (List ℕ) → Status → List ℕ → List ℕ → Type 0 where
+  sheet_refused : {sheet_name text_name bytes said : List ℕ} → Refuses bytes said → Answers (Tokens sheet_name text_name) (bytes ∷ []) refused_sheet [] said
+  text_too_long : {sheet_name text_name bytes text : List ℕ} {sheet : Sheet} → Accepts bytes sheet → text_limit < length text → Answers (Tokens sheet_name text_name) (bytes ∷ text ∷ []) TextTooLong [] long_text_text
+  tokens_listed : {sheet_name text_name bytes text listed : List ℕ} {sheet : Sheet} (tokens : List Token) → Accepts bytes sheet → length text ≤ text_limit → AreTokens (scanning_of sheet) text tokens → listed ≡ token_list sheet text tokens → Answers (Tokens sheet_name text_name) (bytes ∷ text ∷ []) Done listed []
+
+-- what a call answers
+pub data Ends (words : List (List ℕ)) : List (List ℕ) → Status → List ℕ → List ℕ → Type 0 where
+  bad_words : IsBadWords words → Ends words [] Words [] bad_words_text
+  by_command : {command : Command} {inputs : List (List ℕ)} {status : Status} {out err : List ℕ} → HasForm words command → Answers command inputs status out err → Ends words inputs status out err

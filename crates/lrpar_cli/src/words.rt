@@ -1,0 +1,44 @@
+ghost use Rattle.std.specs.Prelude.{IfSome, IfNone, map, string_bytes, IsTrue, ◌↔◌, None};
+ghost use Rattle.lrpar_cli.specs.Words.{HasForm, IsCommand, IsPosition, IsTokensForm, Command as AnyCommand};
+
+/// What the words ask for.
+#[derive(Clone, Copy, Debug)]
+pub enum Command<'a> {
+    /// `tokens SHEET TEXT`: the tokens of a text.
+    Tokens { sheet: &'a str, text: &'a str },
+}
+
+/// A position is a word that doesn't begin with `-`.
+fn is_position(word: &str) -> bool
+    ensures { IsTrue result ↔ IsPosition word.now }
+{
+    !word.as_bytes().starts_with(b"-")
+}
+
+/// Whether three words are those of `tokens`.
+fn is_tokens_form(command: &str, sheet: &str, text: &str) -> bool
+    ensures { IsTrue result ↔ IsTokensForm command.now sheet.now text.now }
+{
+    if !is_position(sheet) {
+        return false;
+    }
+    if !is_position(text) {
+        return false;
+    }
+    command == "tokens"
+}
+
+/// The command that the words are of the form of, if there is one.
+pub fn command_of(words: &[String]) -> Option<Command<'_>>
+    ensures of_form { IfSome result (λ c. (form : AnyCommand) × HasForm (map string_bytes words.now) form × IsCommand c form) }
+    ensures not_of_form { IfNone result ((form : AnyCommand) → ¬ (HasForm (map string_bytes words.now) form)) }
+{
+    let [command, sheet, text] = words else {
+        return None;
+    };
+    if is_tokens_form(command, sheet, text) {
+        Some(Command::Tokens { sheet, text })
+    } else {
+        None
+    }
+}
