@@ -1,0 +1,17 @@
+//! Worked rows: what stated calls of the program and of its libraries answer, over memory and over the real world.
+#![tactic(auto)]
+
+#[cfg(test)]
+mod adapters;
+#[cfg(test)]
+mod grammar;
+#[cfg(test)]
+mod limits;
+#[cfg(test)]
+mod memory;
+#[cfg(test)]
+mod program;
+#[cfg(test)]
+mod reading;
+#[cfg(test)]
+mod scanning;
