@@ -128,8 +128,16 @@ fn passes_bytes_to_streams(rt: HostRuntime) {
 fn passes_bytes_to_both_outputs(rt: HostRuntime) {
     let mut out = OutSink::new(rt.stdout());
     let mut err = ErrSink::new(rt.stderr());
-    assert_eq!(rt; write_all(&mut out, b"to standard output\n"), Ok(()));
-    assert_eq!(rt; write_all(&mut err, b"to standard error\n"), Ok(()));
+    assert_eq!(rt;
+        write_all(&mut out, b"to standard output\n"),
+        Ok(()),
+        "standard output"
+    );
+    assert_eq!(rt;
+        write_all(&mut err, b"to standard error\n"),
+        Ok(()),
+        "standard error"
+    );
 }
 
 /// The bytes of the test's own file, which take more than one read.

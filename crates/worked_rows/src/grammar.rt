@@ -306,10 +306,11 @@ const LEFTS: [u32; 3] = [0, 1, 1];
 
 /// The right sides of the three rules.
 fn right_sides() -> [[Sym; 2]; 3] {
-    let name = Sym::Name(NameId(1));
-    let first = Sym::Token(TokenId(0));
-    let last = Sym::Token(TokenId(2));
-    [[first, name], [last, first], [name, name]]
+    [
+        [Sym::Token(TokenId(0)), Sym::Name(NameId(1))],
+        [Sym::Token(TokenId(2)), Sym::Token(TokenId(0))],
+        [Sym::Name(NameId(1)), Sym::Name(NameId(1))],
+    ]
 }
 
 /// A grammar of three rules, the second name of which is the start.

@@ -10,6 +10,8 @@ mod limits;
 #[cfg(test)]
 mod memory;
 #[cfg(test)]
+mod names;
+#[cfg(test)]
 mod program;
 #[cfg(test)]
 mod reading;

@@ -1,4 +1,4 @@
-use Rattle.std.proofs.Common.{rules, arith}
+use Rattle.std.proofs.Common.{rules}
 use Rattle.worked_rows.proofs.RoomLemmas.{push_literal}
 use Rattle.worked_rows.proofs.scanning.add_literal.Goals as goal
 

@@ -1,0 +1,9 @@
+pub mod CauseLemmas
+pub mod RelationLemmas
+pub mod UseLemmas
+pub mod KnownLemmas
+pub mod ReachLemmas
+pub mod OpeningLemmas
+pub mod FillLemmas
+pub mod RoundLemmas
+pub mod FactLemmas

@@ -1,0 +1,6 @@
+pub mod EmptySizes
+pub mod KnownNames
+pub mod NameFacts
+pub mod Openings
+pub mod Relations
+pub mod UselessNames

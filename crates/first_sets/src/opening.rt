@@ -1,0 +1,67 @@
+ghost use Rattle.std.specs.Prelude.{◌≡◌, ◌≤◌, length, IfOk, OnOk};
+ghost use Rattle.first_sets.specs.Openings.{AreOpenings, AreReaders, HasOpeningsOf};
+
+use crate::known_names::is_known_symbol;
+use grammar_data::{NameId, Sym};
+use lr_base::{Grammar, NoMemory};
+use std::alloc::Global;
+
+/// A symbol that stands in a right side behind nullable names alone, and the rule's left side, whose first tokens are
+/// those of the symbol too.
+#[derive(Clone, Copy, Debug)]
+pub struct Opening {
+    pub left: NameId,
+    pub symbol: Sym,
+}
+
+/// Puts the openings of a right side to the end of `openings`.
+fn push_openings(
+    left: NameId,
+    right: &[Sym],
+    nullable: &[bool],
+    openings: &mut Vec<Opening>,
+) -> Result<(), NoMemory>
+    ensures { OnOk result (HasOpeningsOf nullable.now left right.now openings.old.items openings.new.items) }
+{
+    for symbol in right {
+        openings.push(Opening {
+            left,
+            symbol: *symbol,
+        })?;
+        if !is_known_symbol(*symbol, nullable, false) {
+            return Ok(());
+        }
+    }
+    Ok(())
+}
+
+/// The openings of all right sides.
+pub fn openings_of(
+    alloc: Global,
+    grammar: &Grammar,
+    nullable: &[bool],
+) -> Result<Vec<Opening>, NoMemory>
+    ensures openings { IfOk result (λ openings. AreOpenings nullable.now grammar.now.rules openings.items) }
+    ensures few { IfOk result (λ openings. length openings.items ≤ 4000) }
+{
+    let mut openings = Vec::new(alloc);
+    for rule in grammar.rules() {
+        push_openings(rule.left, &rule.right, nullable, &mut openings)?;
+    }
+    Ok(openings)
+}
+
+/// The names that are symbols of openings, each with the place of the opening.
+pub fn readers_of(alloc: Global, openings: &[Opening]) -> Result<Vec<(u32, u32)>, NoMemory>
+    requires { length openings.now ≤ 4000 }
+    ensures readers { IfOk result (λ pairs. AreReaders openings.now pairs.items) }
+    ensures few { IfOk result (λ pairs. length pairs.items ≤ length openings.now) }
+{
+    let mut pairs = Vec::new(alloc);
+    for (place, opening) in openings.iter().enumerate() {
+        if let Sym::Name(name) = opening.symbol {
+            pairs.push((name.0, place as u32))?;
+        }
+    }
+    Ok(pairs)
+}
