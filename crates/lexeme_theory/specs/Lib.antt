@@ -1,0 +1,10 @@
+pub mod SheetBytes
+pub mod Runs
+pub mod Lines
+pub mod Begins
+pub mod Decimals
+pub mod Escapes
+pub mod Texts
+pub mod Stands
+pub mod Reading
+pub mod Laws

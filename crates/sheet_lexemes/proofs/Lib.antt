@@ -1,0 +1,4 @@
+pub mod Spelled
+pub mod Decimals
+pub mod Steps
+pub mod Looked
