@@ -1,0 +1,12 @@
+pub mod SpotLemmas
+pub mod TableLemmas
+pub mod ClosingLemmas
+pub mod ClosureExact
+pub mod LayoutLemmas
+pub mod WordLemmas
+pub mod SameEntries
+pub mod SuccessorLemmas
+pub mod StateFinding
+pub mod StepLemmas
+pub mod SettingLemmas
+pub mod TableLaws

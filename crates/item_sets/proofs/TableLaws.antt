@@ -1,0 +1,38 @@
+-- What the tables of a collection say of lists and items.
+use Rattle.std.proofs.Common.{◌≡◌, ℕ, ◌<◌, IsTrue, List, [], ◌∷◌, ◌++◌, slice_get, Option, Some, None, refl, sym, ◌∙◌, arith}
+use Rattle.std.proofs.lemmas.Option.{none-some}
+use Rattle.grammar_data.specs.declared.rule.Sym.{Sym}
+use Rattle.grammar_data.specs.Grammar.{Grammar}
+use Rattle.grammar_theory.specs.Rules.{IsInRange}
+use Rattle.item_theory.specs.Items.{Item}
+use Rattle.item_theory.specs.Chains.{Moves}
+use Rattle.item_theory.proofs.StateLaws.{step_law}
+use Rattle.item_theory.proofs.CollectionLaws.{collection_items_law}
+use Rattle.item_sets.specs.Tables.{Tables, state_count, has_item, step_in, IsCollectionOf, StateItemsLaw, NoStepLaw}
+use Rattle.item_sets.proofs.StateFinding.{get_at}
+
+pub state_items_law : StateItemsLaw
+state_items_law g range t is xs q at = collection_items_law g range (state_count t) (has_item t) (step_in t) is.collection xs q at
+
+module _ (g : Grammar) (range : IsInRange g) (t : Tables) (is : IsCollectionOf g t) (q : ℕ) (x : Sym) (less : q < state_count t) where
+  word_of : (xs : List Sym) × (slice_get is.collection.words q ≡ Some xs)
+  word_of = get_at is.collection.words q (let count = is.collection.count in omega arith)
+
+  stays : step_in t q x ≡ None → (i j : Item) → IsTrue (has_item t q i) → Moves g x i j → ⊥
+  stays none i j has move =
+      let word = word_of in
+      let viable = (step_law g range word.0 x).1 (i, j, (is.collection.items q word.0 word.1 i).0 has, move) in
+      let state = is.collection.are_states.every (word.0 ++ x ∷ []) viable in
+      none-some state.0 (sym none ∙ (is.collection.steps q state.0 word.0 x word.1).1 (state.1, state.2, state.3))
+
+  no_step : (o : Option ℕ) → step_in t q x ≡ o → ((i j : Item) → IsTrue (has_item t q i) → Moves g x i j → ⊥) → o ≡ None
+  no_step None at none = refl
+  no_step (Some p) at none =
+      let word = word_of in
+      let state = (is.collection.steps q p word.0 x word.1).0 at in
+      let viable = (is.collection.are_states.are_leading.leading p state.0 state.1).viable in
+      let moved = (step_law g range word.0 x).0 (viable.0, (state.2 viable.0).0 viable.1) in
+      absurd (none moved.0 moved.1 ((is.collection.items q word.0 word.1 moved.0).1 moved.2) moved.3)
+
+pub no_step_law : NoStepLaw
+no_step_law g range t is q x less = (stays g range t is q x less, λ none. no_step g range t is q x less (step_in t q x) refl none)

@@ -1,0 +1,32 @@
+use Rattle.std.proofs.Common.{◌≡◌, ◌++◌, ◌∷◌, List, [], All, sym, ap, subst, ◌∙◌}
+use Rattle.item_sets.specs.declared.entry.Entry.{Entry}
+use Rattle.item_sets.specs.Searching.{FindsStates, IsSearchAt, IsStateSet}
+use Rattle.item_sets.proofs.StepLemmas.{search_first}
+use Rattle.item_sets.proofs.SettingLemmas.{first_kernel, first_only, first_set, first_finds}
+use Rattle.item_sets.proofs.building.first_state.Goals as goal
+
+pub closure-requires-clause-kernel : goal.closure-requires-clause-kernel
+closure-requires-clause-kernel c = first_kernel c.args.grammar.now c.first_entry.result c.first_entry.ensures
+
+pub returns-clause-sets : goal.returns-clause-sets
+returns-clause-sets c =
+    let g = c.args.grammar.now in
+    let set = c.in_ok-set.set in
+    let one : c.push.new.self.items ≡ set ∷ [] = c.in_ok-push.ensures.items ∙ ap (λ (l : List (List Entry)). l ++ set ∷ []) c.new-sets.ensures.items in
+    subst (λ (l : List (List Entry)). All (IsStateSet g) l) (sym one) (first_set g c.first_entry.result c.first_entry.ensures set c.in_ok-set.ensures)
+
+pub returns-clause-finds : goal.returns-clause-finds
+returns-clause-finds c =
+    let g = c.args.grammar.now in
+    let set = c.in_ok-set.set in
+    let one : c.push.new.self.items ≡ set ∷ [] = c.in_ok-push.ensures.items ∙ ap (λ (l : List (List Entry)). l ++ set ∷ []) c.new-sets.ensures.items in
+    subst (λ (l : List (List Entry)). FindsStates c.note.new.found l) (sym one)
+    (first_finds g c.first_entry.result c.first_entry.ensures set c.in_ok-set.ensures c.new-found.result c.note.new.found c.new.result c.new-found.ensures.empty c.new.ensures.items c.in_ok-note.ensures)
+
+pub returns-clause-search : goal.returns-clause-search
+returns-clause-search c =
+    let g = c.args.grammar.now in
+    let set = c.in_ok-set.set in
+    let first = c.first_entry.result in
+    let one : c.push.new.self.items ≡ set ∷ [] = c.in_ok-push.ensures.items ∙ ap (λ (l : List (List Entry)). l ++ set ∷ []) c.new-sets.ensures.items in
+    subst (λ (l : List (List Entry)). IsSearchAt g l [] 0 0) (sym one) (search_first g c.requires.setting.range (first ∷ []) set (first_only g first c.first_entry.ensures) c.in_ok-set.ensures)

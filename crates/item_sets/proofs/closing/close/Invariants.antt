@@ -1,0 +1,12 @@
+use Rattle.std.proofs.Common.{◌+◌, ◌*◌, length, take}
+use Rattle.item_sets.specs.Closing.{IsClosing, missing}
+use Rattle.item_sets.proofs.closing.close.Given as goal
+
+abbrev pub invariant-loop-entry : goal.invariant-loop-entry
+invariant-loop-entry l = IsClosing l.fn.grammar l.kernel (take l.entry-index l.kernel) l.aheads.items l.work.items
+
+abbrev pub invariant-loop-name : goal.invariant-loop-name
+invariant-loop-name l = IsClosing l.fn.grammar l.fn.kernel l.fn.kernel l.aheads.items l.work.items
+
+abbrev pub decreases-loop-name : goal.decreases-loop-name
+decreases-loop-name l = 2 * missing l.aheads.items + length l.work.items

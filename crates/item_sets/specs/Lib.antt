@@ -1,0 +1,8 @@
+pub mod Entries
+pub mod Tables
+pub mod Spots
+pub mod Closing
+pub mod Layout
+pub mod Successors
+pub mod Found
+pub mod Searching

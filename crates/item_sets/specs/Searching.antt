@@ -1,0 +1,91 @@
+-- The search of the states: what is known of the states and the steps while the search stands at a state and a column.
+use Rattle.std.specs.Prelude.{◌≡◌, ◌≢◌, ℕ, ◌+◌, ◌-◌, ◌*◌, ◌<◌, ◌↔◌, ◌⊎◌, ◌==◌, nat_lt, if◌then◌else◌, IsTrue, List, [], ◌∷◌, ◌++◌, length, slice_get, Option, Some, None}
+use Rattle.std.specs.List.{filter}
+use Rattle.std.specs.HashMap.{HashMap}
+use Rattle.std.specs.Global.{Vec}
+use Rattle.grammar_data.specs.declared.rule.Sym.{Sym}
+use Rattle.grammar_data.specs.declared.rule.Sym.TheVariants.{Token, Name}
+use Rattle.grammar_data.specs.Grammar.{Grammar}
+use Rattle.lr_base.specs.TokenSet.{IsTokenSet, has_token}
+use Rattle.item_theory.specs.Items.{Item, IsValid, IsViable}
+use Rattle.item_theory.specs.Chains.{Closure}
+use Rattle.item_theory.specs.LeadingWords.{AreStates}
+use Rattle.item_theory.specs.Search.{IsSearchedTo}
+use Rattle.item_theory.specs.Collections.{IsStateOf}
+use Rattle.item_sets.specs.declared.entry.Entry.{Entry}
+use Rattle.item_sets.specs.Entries.{entries_have, AreEntries}
+use Rattle.item_sets.specs.Layout.{IsClosureOf}
+use Rattle.item_sets.specs.Successors.{key_of}
+use Rattle.item_sets.specs.Found.{state_at}
+
+-- the kernel of a state: the entries with the dot behind a symbol; that of state 0 is empty
+abbrev pub kernel_of : List Entry → List Entry
+kernel_of entries = filter (λ (e : Entry). nat_lt 0 e.dot) entries
+
+-- entries that are the closure of their kernel, unless that is empty
+pub record IsStateSet (g : Grammar) (entries : List Entry) : Type 0 where
+  pub are : AreEntries g entries
+  pub closed : kernel_of entries ≢ [] → (i : Item) → IsTrue (entries_have entries i) ↔ Closure g (λ j. IsTrue (entries_have (kernel_of entries) j)) i
+
+-- the state has this kernel
+abbrev pub HasKernel : List (List Entry) → List Entry → ℕ → Type 0
+HasKernel states kernel q = (entries : List Entry) × (slice_get states q ≡ Some entries) × (kernel_of entries ≡ kernel)
+
+-- the map finds the states by the keys of their kernels, and nothing else
+abbrev pub FindsStates : {S : Type 0} → HashMap (Vec ℕ) ℕ S → List (List Entry) → Type 0
+FindsStates found states = (key : Vec ℕ) (q : ℕ) → (state_at found key.items ≡ Some q) ↔ ((entries : List Entry) × (slice_get states q ≡ Some entries) × (key.items ≡ key_of (kernel_of entries)))
+
+-- no state has the kernel
+abbrev pub IsNewKernel : List (List Entry) → List Entry → Type 0
+IsNewKernel states kernel = (q : ℕ) → HasKernel states kernel q → ⊥
+
+-- the state has the kernel; it was there, or is put last as the closure of the kernel
+abbrev pub IsFoundOrAdded : Grammar → List Entry → List (List Entry) → List (List Entry) → ℕ → Type 0
+IsFoundOrAdded g kernel old new q = (HasKernel old kernel q × (new ≡ old)) ⊎ (IsNewKernel old kernel × ((entries : List Entry) × IsClosureOf g kernel entries × (new ≡ old ++ entries ∷ []) × (q ≡ length old)))
+
+-- there is no step where the kernel is empty
+abbrev pub IsStepFound : Grammar → List Entry → List (List Entry) → List (List Entry) → Option ℕ → Type 0
+IsStepFound g kernel old new None = (kernel ≡ []) × (new ≡ old)
+IsStepFound g kernel old new (Some q) = (kernel ≢ []) × IsFoundOrAdded g kernel old new q
+
+-- the symbol of a column; behind the last token's column that of the first name
+abbrev pub symbol_at : Grammar → ℕ → Sym
+symbol_at g column = (if nat_lt column g.tokens then Token column else Name (column - g.tokens))
+
+-- what a step says of the list with the symbol added
+abbrev pub IsStepOf : Grammar → List (List Sym) → List Sym → Option ℕ → Type 0
+IsStepOf g words xs None = ¬ (IsViable g xs)
+IsStepOf g words xs (Some p) = IsStateOf g words p xs
+
+-- the states are those of the words, and each step so far is that from its row's state along its column's symbol
+pub record AreTablesOf (g : Grammar) (words : List (List Sym)) (states : List (List Entry)) (steps : List (Option ℕ)) : Type 0 where
+  pub count : length words ≡ length states
+  pub items : (q : ℕ) (xs : List Sym) (entries : List Entry) → slice_get words q ≡ Some xs → slice_get states q ≡ Some entries → (i : Item) → IsTrue (entries_have entries i) ↔ IsValid g xs i
+  pub along : (q column : ℕ) (xs : List Sym) (o : Option ℕ) → column < g.tokens + g.names → slice_get steps (q * (g.tokens + g.names) + column) ≡ Some o → slice_get words q ≡ Some xs → IsStepOf g words (xs ++ symbol_at g column ∷ []) o
+
+-- the search stands at a state and a column
+pub record IsSearchAt (g : Grammar) (states : List (List Entry)) (steps : List (Option ℕ)) (p column : ℕ) : Type 0 where
+  pub words : List (List Sym)
+  pub top : List Sym
+  pub searched : IsSearchedTo g words p top (symbol_at g column)
+  pub tables : AreTablesOf g words states steps
+  pub size : length steps ≡ p * (g.tokens + g.names) + column
+
+-- all states and all steps are found
+pub record IsSearchedAll (g : Grammar) (states : List (List Entry)) (steps : List (Option ℕ)) : Type 0 where
+  pub words : List (List Sym)
+  pub are_states : AreStates g words
+  pub tables : AreTablesOf g words states steps
+  pub size : length steps ≡ length states * (g.tokens + g.names)
+
+-- before a state the search stands at its first column, and after the last one it is at its end
+pub record IsSearchBefore (g : Grammar) (states : List (List Entry)) (steps : List (Option ℕ)) (p : ℕ) : Type 0 where
+  pub within : p < length states → IsSearchAt g states steps p 0
+  pub end : p ≡ length states → IsSearchedAll g states steps
+
+-- the entry is that of the augmented item with the dot in front
+pub record IsFirstEntry (g : Grammar) (e : Entry) : Type 0 where
+  pub rule : e.rule ≡ length g.rules
+  pub dot : e.dot ≡ 0
+  pub set : IsTokenSet e.ahead
+  pub ahead : (a : ℕ) → has_token e.ahead a ≡ (a == g.tokens)
