@@ -4,7 +4,11 @@
 #[cfg(test)]
 mod adapters;
 #[cfg(test)]
+mod collections;
+#[cfg(test)]
 mod grammar;
+#[cfg(test)]
+mod lexemes;
 #[cfg(test)]
 mod limits;
 #[cfg(test)]

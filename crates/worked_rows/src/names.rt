@@ -17,8 +17,7 @@ enum Kind {
     EmptyTooLarge,
 }
 
-/// A grammar whose names are the letters from `A` on, of which `A` is the start, and whose tokens are those from `a` to
-/// `d`: each rule is its left side with its right side behind it.
+/// A grammar of letters.
 struct NamesRow {
     name: &'static str,
     names: u32,
@@ -32,7 +31,7 @@ struct NamesRow {
     sizes: &'static [u32],
 }
 
-const TOKENS: u32 = 4;
+const TOKENS: u32 = 5;
 
 static ROWS: [NamesRow; 13] = [
     NamesRow {
@@ -161,7 +160,8 @@ static ROWS: [NamesRow; 13] = [
     },
 ];
 
-fn symbol_of(letter: u8) -> Sym {
+/// The token or the name that a letter stands for.
+pub fn symbol_of(letter: u8) -> Sym {
     if letter.is_ascii_lowercase() {
         Sym::Token(TokenId(u32::from(letter.saturating_sub(b'a'))))
     } else {
@@ -181,12 +181,18 @@ fn rule_of(alloc: Global, letters: &[u8]) -> Result<Rule, AllocError> {
     })
 }
 
-fn grammar_of(alloc: Global, row: &NamesRow) -> Result<Option<Grammar>, AllocError> {
+/// A grammar whose names are the letters from `A` on, of which `A` is the start, and whose tokens are those from `a` to
+/// `e`: each rule is its left side with its right side behind it.
+pub fn grammar_of(
+    alloc: Global,
+    names: u32,
+    letters: &[&[u8]],
+) -> Result<Option<Grammar>, AllocError> {
     let mut rules = Vec::new(alloc);
-    for letters in row.rules {
-        rules.push(rule_of(alloc, letters)?)?;
+    for rule in letters {
+        rules.push(rule_of(alloc, rule)?)?;
     }
-    Ok(Grammar::new(TOKENS, row.names, rules, NameId(0)))
+    Ok(Grammar::new(TOKENS, names, rules, NameId(0)))
 }
 
 /// Whether these are the name's first tokens and its empty size.
@@ -240,7 +246,7 @@ fn is_analysed_as_stated(alloc: Global, grammar: &Grammar, row: &NamesRow) -> bo
 #[test]
 fn finds_useless_names_first_tokens_and_empty_sizes(rt: HostRuntime) -> Result<(), Fail> {
     for row in &ROWS {
-        let grammar = grammar_of(rt.alloc(), row)?.ok_or(row.name)?;
+        let grammar = grammar_of(rt.alloc(), row.names, row.rules)?.ok_or(row.name)?;
         assert!(rt;
             is_analysed_as_stated(rt.alloc(), &grammar, row),
             "{}",
