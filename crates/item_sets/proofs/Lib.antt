@@ -3,7 +3,6 @@ pub mod TableLemmas
 pub mod ClosingLemmas
 pub mod ClosureExact
 pub mod LayoutLemmas
-pub mod WordLemmas
 pub mod SameEntries
 pub mod SuccessorLemmas
 pub mod StateFinding

@@ -41,7 +41,7 @@ pub fn column(symbol: Sym, tokens: u32, names: u32) -> Option<u32>
 
 impl Collection {
     /// The collection of these parts.
-    pub fn from_parts(
+    pub(crate) fn from_parts(
         tokens: u32,
         names: u32,
         states: Vec<ItemSet>,

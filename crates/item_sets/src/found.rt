@@ -6,26 +6,9 @@ ghost use Rattle.item_sets.specs.Successors.{key_of};
 ghost use Rattle.item_sets.specs.Found.{same_key, state_at};
 
 use crate::entry::Entry;
-use lr_base::{StateId, TokenId, TokenSet};
+use lr_base::StateId;
 use std::alloc::{AllocError, Global};
 use std::collections::HashMap;
-
-/// How many numbers of 64 bits tell a set of tokens.
-const WORDS: usize = 4;
-
-/// The words of a set of tokens.
-fn words(set: &TokenSet) -> [u64; WORDS]
-    requires { IsTokenSet set.now }
-    ensures { result ≡ set.now }
-{
-    let mut words = [0; WORDS];
-    for token in 0..256 {
-        if set.has(TokenId(token)) {
-            words[token as usize / 64] |= 1 << (token % 64);
-        }
-    }
-    words
-}
 
 /// The key of a kernel.
 pub fn key(alloc: Global, kernel: &[Entry]) -> Result<Vec<u64>, AllocError>
@@ -37,7 +20,7 @@ pub fn key(alloc: Global, kernel: &[Entry]) -> Result<Vec<u64>, AllocError>
         let rule = entry.rule;
         key.push(u64::from(rule.0))?;
         key.push(u64::from(entry.dot))?;
-        key.extend_from_slice(&words(&entry.ahead))?;
+        key.extend_from_slice(&entry.ahead.words())?;
     }
     Ok(key)
 }

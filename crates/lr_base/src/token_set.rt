@@ -7,7 +7,7 @@ use std::marker::Model;
 /// How many words a set has; each has the bits of 64 tokens.
 const WORDS: usize = 4;
 
-/// A set of tokens below 256. Contracts see its words, and read them by `has_token` alone.
+/// A set of tokens below 256. Contracts see its words, and read them by `has_token`.
 #[derive(Clone, Copy, Debug, PartialEq, Eq, PartialOrd, Ord, Hash)]
 pub struct TokenSet {
     words: [u64; WORDS],
@@ -69,6 +69,14 @@ impl TokenSet {
         ensures { IsTrue result ↔ ((a : ℕ) → has_token self.now a ≡ false) }
     {
         self.words == [0; WORDS]
+    }
+
+    /// The words of the set: the bit of token `a` is number `a % 64` of word `a / 64`.
+    pub fn words(&self) -> [u64; WORDS]
+        ensures words { result ≡ self.now }
+        ensures set { IsTokenSet result }
+    {
+        self.words
     }
 
     /// Adds the token.

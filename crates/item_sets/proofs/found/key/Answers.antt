@@ -16,5 +16,5 @@ loop-entry-preserved c =
     let more : take (k + 1) kernel ≡ take k kernel ++ e ∷ [] = take_more kernel k e c.loop-entry-test.true ∙ ap (λ d. take k kernel ++ d ∷ []) (sym c.entry-item.is) in
     let first : c.push.new.self.items ≡ key ++ e.rule ∷ [] = c.in_ok-push.ensures.items ∙ ap (λ n. key ++ n ∷ []) rule in
     let second : c.push-in-loop-entry.new.self.items ≡ (key ++ e.rule ∷ []) ++ e.dot ∷ [] = c.in_ok-push-2.ensures.items ∙ ap (λ (l : List ℕ). l ++ c.from-in-loop-entry.result ∷ []) first ∙ ap (λ n. (key ++ e.rule ∷ []) ++ n ∷ []) dot in
-    let third : c.extend_from_slice.new.self.items ≡ ((key ++ e.rule ∷ []) ++ e.dot ∷ []) ++ e.ahead = c.in_ok-extend_from_slice.ensures.items ∙ ap (λ (l : List ℕ). l ++ c.words.result) second ∙ ap (λ (l : List ℕ). ((key ++ e.rule ∷ []) ++ e.dot ∷ []) ++ l) c.words.ensures in
+    let third : c.extend_from_slice.new.self.items ≡ ((key ++ e.rule ∷ []) ++ e.dot ∷ []) ++ e.ahead = c.in_ok-extend_from_slice.ensures.items ∙ ap (λ (l : List ℕ). l ++ c.words.result) second ∙ ap (λ (l : List ℕ). ((key ++ e.rule ∷ []) ++ e.dot ∷ []) ++ l) c.words.ensures.words in
     third ∙ key_joined key e ∙ ap (λ (l : List ℕ). l ++ (e.rule ∷ (e.dot ∷ e.ahead))) c.loop-entry.invariant ∙ sym (key_pushed (take k kernel) e) ∙ ap (λ (l : List Entry). key_of l) (sym more)
