@@ -1,12 +1,10 @@
 -- The bytes of a sheet, by kind.
 use Rattle.std.specs.Prelude.{ℕ, nat_lt, nat_le, Bool, ◌&&◌, ◌||◌, ◌==◌, not}
+pub use Rattle.pattern_data.specs.Escapes.{is_digit, is_punctuation}
 
 -- a letter or `_`
 abbrev pub is_name_start : ℕ → Bool
 is_name_start byte = (nat_le 65 byte && nat_le byte 90) || ((nat_le 97 byte && nat_le byte 122) || (byte == 95))
-
-abbrev pub is_digit : ℕ → Bool
-is_digit byte = nat_le 48 byte && nat_le byte 57
 
 -- a letter, a digit or `_`
 abbrev pub is_name_byte : ℕ → Bool
@@ -23,8 +21,3 @@ is_bad_in_text byte = (byte == 127) || (nat_lt byte 32 && not (is_blank byte))
 -- a byte that is bad outside of comments and of texts between closing bytes: one from 0x80 up is, too
 abbrev pub is_bad : ℕ → Bool
 is_bad byte = is_bad_in_text byte || nat_le 128 byte
-
--- the other bytes from 0x21 to 0x7E than letters and digits
-abbrev pub is_punctuation : ℕ → Bool
-is_punctuation byte =
-    (nat_le 33 byte && nat_le byte 47) || ((nat_le 58 byte && nat_le byte 64) || ((nat_le 91 byte && nat_le byte 96) || (nat_le 123 byte && nat_le byte 126)))

@@ -1,2 +1,14 @@
 pub mod ByteLemmas
+pub mod SetLemmas
+pub mod MemberLemmas
+pub mod SignLemmas
+pub mod ReadingLemmas
+pub mod SpelledLemmas
+pub mod EmptyLemmas
+pub mod RunLemmas
+pub mod PrintLemmas
+pub mod NormalLemmas
+pub mod TextLemmas
+pub mod RoundLemmas
+pub mod FeedLemmas
 pub mod LanguageLemmas

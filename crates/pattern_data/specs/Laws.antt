@@ -2,6 +2,8 @@
 use Rattle.std.specs.Prelude.{◌≡◌, ◌≢◌, ℕ, ◌<◌, ◌↔◌, List, length, Contains}
 use Rattle.pattern_data.specs.declared.pattern.Pattern.{Pattern}
 use Rattle.pattern_data.specs.Bytes.{IsMember, only_byte}
+use Rattle.pattern_data.specs.Spellings.{IsSpelling}
+use Rattle.pattern_data.specs.Printing.{normal_spelling}
 use Rattle.pattern_data.specs.Language.{Matches, IsLiteral, literal_pattern, positions_of}
 
 -- the set of one byte has that byte and no other
@@ -19,3 +21,15 @@ NoLineFeedLaw = (pattern : Pattern) (w : List ℕ) → Matches pattern w → ¬ 
 -- a literal has a position for each byte
 abbrev pub PositionsLaw : Type 0
 PositionsLaw = (bytes : List ℕ) → IsLiteral bytes → positions_of (literal_pattern bytes) ≡ length bytes
+
+-- a text spells one pattern at most
+abbrev pub OneSpellingLaw : Type 0
+OneSpellingLaw = (text : List ℕ) (one other : Pattern) → IsSpelling text one → IsSpelling text other → one ≡ other
+
+-- the normal spelling of a pattern that some text spells is a spelling of it
+abbrev pub NormalSpellingLaw : Type 0
+NormalSpellingLaw = (text : List ℕ) (pattern : Pattern) → IsSpelling text pattern → IsSpelling (normal_spelling pattern) pattern
+
+-- no spelling has a line feed
+abbrev pub NoFeedInSpellingLaw : Type 0
+NoFeedInSpellingLaw = (text : List ℕ) (pattern : Pattern) → IsSpelling text pattern → ¬ (Contains text 10)

@@ -1,3 +1,12 @@
 pub mod Bytes
+pub mod Escapes
+pub mod Sets
+pub mod Classes
+pub mod Signs
+pub mod Spellings
+pub mod Groups
+pub mod Texts
+pub mod Printing
 pub mod Language
+pub mod Empty
 pub mod Laws

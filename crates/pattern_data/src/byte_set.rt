@@ -1,5 +1,6 @@
-ghost use Rattle.std.specs.Prelude.{◌≡◌, ◌≢◌, ℕ, ◌≤◌};
+ghost use Rattle.std.specs.Prelude.{◌≡◌, ◌≢◌, ℕ, ◌≤◌, ◌↔◌, IsTrue};
 ghost use Rattle.pattern_data.specs.Bytes.{IsByteSet, IsMember, only_byte};
+ghost use Rattle.pattern_data.specs.Texts.{is_any};
 
 use std::marker::Model;
 
@@ -45,6 +46,23 @@ impl ByteSet {
         let mut words = [0; WORDS];
         words[byte as usize / 64] = 1 << (byte % 64);
         ByteSet { words }
+    }
+
+    /// Whether the byte is in the set.
+    pub fn has(&self, byte: u8) -> bool
+        ensures { IsTrue result ↔ IsMember self.now byte }
+    {
+        byte != b'\n' && self.words[byte as usize / 64] & (1 << (byte % 64)) != 0
+    }
+
+    /// Whether the set has all bytes but the line feed.
+    pub fn is_any(&self) -> bool
+        ensures { result ≡ is_any self.now }
+    {
+        self.words[0] == !(1 << 10)
+            && self.words[1] == u64::MAX
+            && self.words[2] == u64::MAX
+            && self.words[3] == u64::MAX
     }
 
     /// The least byte of the set.

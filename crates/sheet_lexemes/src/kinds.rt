@@ -1,6 +1,6 @@
 //! The kinds of bytes.
 ghost use Rattle.std.specs.Prelude.{◌≡◌};
-ghost use Rattle.lexeme_theory.specs.SheetBytes.{is_name_start, is_digit, is_name_byte, is_blank, is_bad_in_text, is_bad, is_punctuation};
+ghost use Rattle.lexeme_theory.specs.SheetBytes.{is_name_start, is_digit, is_name_byte, is_blank, is_bad_in_text, is_bad};
 
 /// A letter or `_`.
 pub fn starts_name(byte: u8) -> bool
@@ -35,11 +35,4 @@ pub fn is_bad_outside(byte: u8) -> bool
     ensures { result ≡ is_bad byte }
 {
     is_bad_within(byte) || byte >= 0x80
-}
-
-/// A byte from 0x21 to 0x7E that is no letter and no digit.
-pub fn is_sign(byte: u8) -> bool
-    ensures { result ≡ is_punctuation byte }
-{
-    matches!(byte, b'!'..=b'/' | b':'..=b'@' | b'['..=b'`' | b'{'..=b'~')
 }

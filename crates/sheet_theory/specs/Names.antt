@@ -1,6 +1,7 @@
 -- The printed names of a sheet's tokens.
-use Rattle.std.specs.Prelude.{ℕ, ◌+◌, ◌/◌, ◌%◌, ◌==◌, nat_lt, nat_le, ◌&&◌, ◌||◌, if◌then◌else◌, List, [], ◌∷◌, ◌++◌, map, codes}
+use Rattle.std.specs.Prelude.{ℕ, ◌/◌, ◌%◌, ◌==◌, nat_le, ◌&&◌, ◌||◌, if◌then◌else◌, List, [], ◌∷◌, ◌++◌, map, codes}
 use Rattle.std.specs.List.{flat_map}
+pub use Rattle.pattern_data.specs.Escapes.{backslash, hex_digit}
 use Rattle.sheet_data.specs.Sheet.{Sheet}
 use Rattle.sheet_data.specs.declared.parts.Decl.{Decl}
 use Rattle.sheet_data.specs.declared.parts.Decl.TheVariants.{Literal, Matched, Skip}
@@ -10,13 +11,6 @@ quote = 39
 
 abbrev pub double_quote : ℕ
 double_quote = 34
-
-abbrev pub backslash : ℕ
-backslash = 92
-
--- a digit of base 16, in lower case
-abbrev pub hex_digit : ℕ → ℕ
-hex_digit n = if nat_lt n 10 then 48 + n else 87 + n
 
 -- a byte inside a text that this byte closes: the closing byte and the backslash take a backslash, a byte from 0x20 to
 -- 0x7E stands for itself, and every other one is `\x` and two digits

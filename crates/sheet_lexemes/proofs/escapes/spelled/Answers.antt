@@ -5,10 +5,10 @@ use Rattle.sheet_lexemes.proofs.Steps.{nonempty, empty}
 use Rattle.sheet_lexemes.proofs.escapes.spelled.Goals as goal
 
 pub returns-in_default : goal.returns-in_default
-returns-in_default c = λ all spells. so_far_wrong c.args.text.now c.loop-left.bytes.items c.loop-left.left.now (nonempty (length c.loop-left.left.now) c.loop-left-test.ensures) (sym c.in_default.ensures) c.loop-left.invariant all spells
+returns-in_default c = λ all spells. so_far_wrong c.args.text.now c.loop-left.bytes.items c.loop-left.left.now (nonempty (length c.loop-left.left.now) c.loop-left-test.ensures) (sym c.in_default.ensures.front) c.loop-left.invariant all spells
 
 pub loop-left-preserved : goal.loop-left-preserved
-loop-left-preserved c = so_far_more c.args.text.now c.loop-left.bytes.items c.loop-left.left.now c.push.new.self.items c.in-Some.rest.now c.in-Some.byte c.loop-left.invariant (sym c.in-Some.ensures) c.in_ok-push.ensures.items
+loop-left-preserved c = so_far_more c.args.text.now c.loop-left.bytes.items c.loop-left.left.now c.push.new.self.items c.in-Some.rest.now c.in-Some.byte c.loop-left.invariant (sym c.in-Some.ensures.front) c.in_ok-push.ensures.items
 
 pub returns : goal.returns
 returns c =
