@@ -1,0 +1,17 @@
+pub mod StandLemmas
+pub mod TextLemmas
+pub mod NumberLemmas
+pub mod WordLemmas
+pub mod LaidLemmas
+pub mod GoodLemmas
+pub mod MemberLemmas
+pub mod IndexLemmas
+pub mod SideLemmas
+pub mod FactLemmas
+pub mod SymbolLemmas
+pub mod RuleLemmas
+pub mod LayoutLemmas
+pub mod SameLemmas
+pub mod PlaceLemmas
+pub mod FaultlessLemmas
+pub mod ReadLemmas

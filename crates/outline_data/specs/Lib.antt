@@ -1,0 +1,4 @@
+pub mod AlternativeParts
+pub mod GroupParts
+pub mod Parts
+pub mod Keys

@@ -1,0 +1,4 @@
+pub mod CompareLemmas
+pub mod StopLemmas
+pub mod ApartLemmas
+pub mod AnswerLemmas

@@ -1,0 +1,9 @@
+pub mod Spelling
+pub mod Outlines
+pub mod Words
+pub mod Keys
+pub mod LineFaults
+pub mod Numbering
+pub mod Limits
+pub mod Reading
+pub mod Layout

@@ -1,0 +1,41 @@
+-- Bytes are one sheet, or have one first fault.
+use Rattle.std.specs.Prelude.{◌≡◌, ℕ, ◌≤◌, List, length, sum_by}
+use Rattle.sheet_data.specs.Sheet.{Sheet}
+use Rattle.outline_data.specs.declared.fault.SheetFault.{SheetFault}
+use Rattle.outline_data.specs.Parts.{OutlineParts}
+use Rattle.outline_theory.specs.Outlines.{IsOutlineOf, IsPlain}
+use Rattle.outline_theory.specs.LineFaults.{IsFirstLineFault}
+use Rattle.outline_theory.specs.Numbering.{token_literals, IsSheetOf}
+use Rattle.outline_theory.specs.Reading.{Reads, IsFirstFault}
+
+-- the literals of the tokens are no longer, together, than the bytes
+abbrev pub SizesLaw : Type 0
+SizesLaw = (bytes : List ℕ) (o : OutlineParts) → IsOutlineOf bytes o → sum_by length (token_literals o) ≤ length bytes
+
+-- an outline without patterns has a sheet
+abbrev pub SomeSheetLaw : Type 0
+SomeSheetLaw = (o : OutlineParts) → IsPlain o → (sheet : Sheet) × IsSheetOf o sheet
+
+-- and one at most
+abbrev pub OneSheetOfLaw : Type 0
+OneSheetOfLaw = (o : OutlineParts) (one other : Sheet) → IsSheetOf o one → IsSheetOf o other → one ≡ other
+
+-- bytes are one sheet at most
+abbrev pub OneSheetLaw : Type 0
+OneSheetLaw = (bytes : List ℕ) (one other : Sheet) → Reads bytes one → Reads bytes other → one ≡ other
+
+-- an outline has one first fault on its lines at most
+abbrev pub OneLineFaultLaw : Type 0
+OneLineFaultLaw = (o : OutlineParts) (one other : SheetFault) → IsFirstLineFault o one → IsFirstLineFault o other → one ≡ other
+
+-- bytes have one first fault at most
+abbrev pub OneFirstFaultLaw : Type 0
+OneFirstFaultLaw = (bytes : List ℕ) (one other : SheetFault) → IsFirstFault bytes one → IsFirstFault bytes other → one ≡ other
+
+-- and none where they are a sheet
+abbrev pub NoFirstFaultLaw : Type 0
+NoFirstFaultLaw = (bytes : List ℕ) (sheet : Sheet) (fault : SheetFault) → Reads bytes sheet → ¬ (IsFirstFault bytes fault)
+
+-- it is refuted that they are no sheet and have no first fault
+abbrev pub SheetOrFaultLaw : Type 0
+SheetOrFaultLaw = (bytes : List ℕ) → ((sheet : Sheet) → ¬ (Reads bytes sheet)) → ((fault : SheetFault) → ¬ (IsFirstFault bytes fault)) → ⊥

@@ -1,0 +1,5 @@
+pub mod DraftLemmas
+pub mod RunLemmas
+pub mod StageLemmas
+pub mod PlainLemmas
+pub mod ReadLemmas

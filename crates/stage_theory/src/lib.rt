@@ -1,0 +1,7 @@
+//! The grammar of sheets as an automaton on lexemes: how far a sheet is read, and what its outline is so far. Definitions
+//! and laws alone.
+#![tactic(auto)]
+
+mod laws;
+
+pub use laws::{plain_law, stage_laws};
