@@ -1,0 +1,5 @@
+mod NotedLemmas
+mod SetLemmas
+mod ListLemmas
+mod KindLemmas
+mod LineLemmas

@@ -1,0 +1,4 @@
+pub mod Noted
+pub mod PlaceSets
+pub mod WordSets
+pub mod Kinds

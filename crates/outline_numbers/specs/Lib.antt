@@ -1,0 +1,4 @@
+pub mod Vocabularies
+pub mod Symbols
+pub mod Passing
+pub mod Numbered

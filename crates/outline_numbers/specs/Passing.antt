@@ -1,0 +1,43 @@
+-- Limits that are passed.
+use Rattle.std.specs.Prelude.{◌≡◌, ℕ, ◌⊎◌, List, [], ◌∷◌, ◌++◌, length, sum_by, Some, None, Result, MatchResult}
+use Rattle.grammar_data.specs.Grammar.{Rule}
+use Rattle.lr_base.specs.IsGrammar.{symbols_of}
+use Rattle.outline_data.specs.declared.fault.LimitKind.{LimitKind}
+use Rattle.outline_data.specs.declared.fault.LimitKind.TheVariants.{Tokens, Names, Rules, RightSide, Symbols, Positions}
+use Rattle.outline_data.specs.declared.fault.SheetFault.{SheetFault}
+use Rattle.outline_data.specs.declared.fault.SheetFault.TheVariants.{Limit, NoMemory}
+use Rattle.outline_theory.specs.Limits.{Measure, first_passed, long_side}
+use Rattle.outline_theory.specs.Numbering.{WordLists}
+
+abbrev pub one_measure : LimitKind → ℕ → ℕ → List Measure
+one_measure kind count most = record { kind = kind; count = count; most = most } ∷ []
+
+-- the first of these limits that is passed
+pub record IsFirstOf (measures : List Measure) (fault : SheetFault) : Type 0 where
+  pub measure : Measure
+  pub passed : first_passed measures ≡ Some measure
+  pub is : fault ≡ Limit measure.kind measure.count
+
+-- either none of them is passed, or the first is told
+abbrev pub Keeps : {A : Type 0} → List Measure → Result A SheetFault → Type 0
+Keeps measures result = MatchResult result (λ _. first_passed measures ≡ None) (IsFirstOf measures)
+
+-- the quantities of words, and those of rules
+abbrev pub word_measures : WordLists → List Measure
+word_measures lists =
+    record { kind = Tokens; count = length lists.literals; most = 250 } ∷ record { kind = Names; count = length lists.names; most = 500 } ∷ []
+
+abbrev pub rule_measures : List Rule → List Measure
+rule_measures rules =
+    record { kind = Rules; count = length rules; most = 1000 } ∷ record { kind = RightSide; count = long_side rules; most = 20 } ∷ record { kind = Symbols; count = symbols_of rules; most = 4000 } ∷ []
+
+abbrev pub position_measures : WordLists → List Measure
+position_measures lists = record { kind = Positions; count = sum_by length lists.literals; most = 5000 } ∷ []
+
+-- all of them, in their order
+abbrev pub all_measures : WordLists → List Rule → List Measure
+all_measures lists rules = word_measures lists ++ (rule_measures rules ++ position_measures lists)
+
+-- want of memory, or the first limit that is passed
+abbrev pub IsFirstFaultOf : List Measure → SheetFault → Type 0
+IsFirstFaultOf measures fault = (fault ≡ NoMemory) ⊎ IsFirstOf measures fault

@@ -1,0 +1,95 @@
+//! The limits of an outline with numbers.
+ghost use Rattle.std.specs.Prelude.{◌≡◌, ◌<◌, ◌^◌, length, sum_by};
+ghost use Rattle.outline_numbers.specs.Symbols.{lists_in};
+ghost use Rattle.lr_base.specs.IsGrammar.{symbols_of};
+ghost use Rattle.outline_theory.specs.Limits.{long_side};
+ghost use Rattle.outline_numbers.specs.Passing.{Keeps, one_measure, word_measures, rule_measures, position_measures};
+
+use crate::numbers::Numbers;
+use lr_base::Rule;
+use outline_data::{LimitKind, SheetFault};
+
+/// The most declared tokens and unnamed literals together.
+const TOKENS: usize = 250;
+
+/// The most names of the grammar.
+const NAMES: usize = 500;
+
+/// The most rules.
+const RULES: usize = 1_000;
+
+/// The most symbols of one right side.
+const SIDE_SYMBOLS: usize = 20;
+
+/// The most symbols of all right sides together.
+const SYMBOLS: usize = 4_000;
+
+/// The most positions of all patterns and literals together.
+const POSITIONS: usize = 5_000;
+
+/// Looks at one quantity.
+fn within(kind: LimitKind, count: usize, most: usize) -> Result<(), SheetFault>
+    ensures { Keeps (one_measure kind count most) result }
+{
+    if most < count {
+        return Err(SheetFault::Limit(kind, count as u64));
+    }
+    Ok(())
+}
+
+/// The length of the first right side that is too long; 0 where none is.
+fn first_long_side(rules: &[Rule]) -> usize
+    ensures { result ≡ long_side rules.now }
+{
+    for rule in rules {
+        if SIDE_SYMBOLS < rule.right.len() {
+            return rule.right.len();
+        }
+    }
+    0
+}
+
+/// How many symbols all right sides have together.
+fn count_symbols(rules: &[Rule]) -> usize
+    requires { symbols_of rules.now < 2 ^ 64 }
+    ensures { result ≡ symbols_of rules.now }
+{
+    rules.iter().map(|rule| rule.right.len()).sum()
+}
+
+/// How many bytes words have together.
+fn count_bytes(words: &[&[u8]]) -> usize
+    requires { sum_by (λ word. length word.now) words.now < 2 ^ 64 }
+    ensures { result ≡ sum_by (λ word. length word.now) words.now }
+{
+    words.iter().map(|word| word.len()).sum()
+}
+
+/// Looks at how many tokens and names there are.
+pub fn check_words(numbers: &Numbers<'_>) -> Result<(), SheetFault>
+    ensures { Keeps (word_measures (lists_in numbers.now)) result }
+{
+    within(LimitKind::Tokens, numbers.literals.len(), TOKENS)?;
+    within(LimitKind::Names, numbers.names.len(), NAMES)
+}
+
+/// Looks at how many rules there are, and how long they are.
+pub fn check_rules(rules: &[Rule]) -> Result<(), SheetFault>
+    ensures { Keeps (rule_measures rules.now) result }
+{
+    within(LimitKind::Rules, rules.len(), RULES)?;
+    within(LimitKind::RightSide, first_long_side(rules), SIDE_SYMBOLS)?;
+    within(LimitKind::Symbols, count_symbols(rules), SYMBOLS)
+}
+
+/// Looks at how many positions the literals have.
+pub fn check_positions(numbers: &Numbers<'_>) -> Result<(), SheetFault>
+    requires { sum_by length (lists_in numbers.now).literals < 2 ^ 64 }
+    ensures { Keeps (position_measures (lists_in numbers.now)) result }
+{
+    within(
+        LimitKind::Positions,
+        count_bytes(&numbers.literals.words),
+        POSITIONS,
+    )
+}

@@ -1,0 +1,41 @@
+-- Why a lexeme isn't taken.
+use Rattle.std.specs.Prelude.{◌≡◌, ◌≢◌, ℕ, List, Option, None}
+use Rattle.lexeme_theory.specs.declared.lexeme.Lexeme.{Lexeme}
+use Rattle.lexeme_theory.specs.declared.lexeme.Lexeme.TheVariants.{Pattern}
+use Rattle.lexeme_theory.specs.declared.found.FaultKind.TheVariants.{BadByte as bad_byte_kind, Syntax as syntax_kind}
+use Rattle.outline_data.specs.declared.fault.SheetFault.{SheetFault}
+use Rattle.outline_data.specs.declared.fault.SheetFault.TheVariants.{BadByte, Syntax, FormNotBuilt, BadPattern, PatternMatchesEmpty, Redeclared, UnknownSymbol, NoRules, PlaceOutOfRange, PlaceTwice, NotAToken, Limit, NoMemory}
+use Rattle.stage_theory.specs.Drafts.{Draft}
+use Rattle.sheet_lexemes.specs.Cursors.{IsFaultOn}
+
+-- a lexeme on a line isn't taken by the draft that has this next one: there is none, or the lexeme is a pattern
+abbrev pub IsRefused : Option Draft → Lexeme → ℕ → SheetFault → Type 0
+IsRefused next lexeme line (BadByte on) = ⊥
+IsRefused next lexeme line (Syntax on) = (next ≡ None) × (on ≡ line)
+IsRefused next lexeme line FormNotBuilt = (next ≢ None) × ((text : List ℕ) × (lexeme ≡ Pattern text))
+IsRefused next lexeme line (BadPattern on) = ⊥
+IsRefused next lexeme line (PatternMatchesEmpty on) = ⊥
+IsRefused next lexeme line (Redeclared on) = ⊥
+IsRefused next lexeme line (UnknownSymbol on) = ⊥
+IsRefused next lexeme line NoRules = ⊥
+IsRefused next lexeme line (PlaceOutOfRange on) = ⊥
+IsRefused next lexeme line (PlaceTwice on) = ⊥
+IsRefused next lexeme line (NotAToken on) = ⊥
+IsRefused next lexeme line (Limit kind count) = ⊥
+IsRefused next lexeme line NoMemory = Unit {0}
+
+-- no lexeme stands behind the blanks
+abbrev pub IsNoLexeme : List ℕ → ℕ → SheetFault → Type 0
+IsNoLexeme bytes from (BadByte line) = IsFaultOn bytes from bad_byte_kind line
+IsNoLexeme bytes from (Syntax line) = IsFaultOn bytes from syntax_kind line
+IsNoLexeme bytes from FormNotBuilt = ⊥
+IsNoLexeme bytes from (BadPattern line) = ⊥
+IsNoLexeme bytes from (PatternMatchesEmpty line) = ⊥
+IsNoLexeme bytes from (Redeclared line) = ⊥
+IsNoLexeme bytes from (UnknownSymbol line) = ⊥
+IsNoLexeme bytes from NoRules = ⊥
+IsNoLexeme bytes from (PlaceOutOfRange line) = ⊥
+IsNoLexeme bytes from (PlaceTwice line) = ⊥
+IsNoLexeme bytes from (NotAToken line) = ⊥
+IsNoLexeme bytes from (Limit kind count) = ⊥
+IsNoLexeme bytes from NoMemory = Unit {0}

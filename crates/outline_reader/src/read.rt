@@ -1,0 +1,62 @@
+//! A sheet's outline.
+ghost use Rattle.std.specs.Prelude.{◌≡◌, ◌≤◌, length, IfOk, IfErr};
+ghost use Rattle.sheet_lexemes.specs.Cursors.{IsCursor, IsRead};
+ghost use Rattle.outline_theory.specs.Outlines.{IsOutlineOf, IsPlain};
+ghost use Rattle.outline_reader.specs.Faults.{IsOutlineFault};
+ghost use Rattle.outline_reader.specs.Refusals.{IsNoLexeme};
+
+use crate::progress::Progress;
+use outline_data::{Outline, SheetFault};
+use sheet_lexemes::{Cursor, LexFault, Read, next_lexeme};
+use std::alloc::Global;
+
+/// The next lexeme of a sheet.
+fn lexeme_from(alloc: Global, bytes: &[u8], from: Cursor) -> Result<Read, SheetFault>
+    requires size { length bytes.now ≤ 262144 }
+    requires stands { IsCursor bytes.now from }
+    ensures read { IfOk result (λ read. IsRead bytes.now from.at read) }
+    ensures fault { IfErr result (λ fault. IsNoLexeme bytes.now from.at fault) }
+{
+    match next_lexeme(alloc, bytes, from) {
+        Ok(read) => Ok(read),
+        Err(LexFault::BadByte { line }) => Err(SheetFault::BadByte(line as u32)),
+        Err(LexFault::Syntax { line }) => Err(SheetFault::Syntax(line as u32)),
+        Err(LexFault::NoMemory) => Err(SheetFault::NoMemory),
+    }
+}
+
+/// The line of a place.
+fn line_of_place(bytes: &[u8], place: Cursor) -> u32
+    requires size { length bytes.now ≤ 262144 }
+    requires stands { IsCursor bytes.now place }
+    ensures { result ≡ place.line }
+{
+    place.line as u32
+}
+
+/// The outline of a sheet of at most 262,144 bytes, or its first lexical or syntactic fault, with the line on which the
+/// faulty lexeme begins. Nothing is read behind the second `%%`. Patterns are not read yet: where one stands and a sheet
+/// goes on with it, the answer is `FormNotBuilt`.
+pub fn read_outline(alloc: Global, bytes: &[u8]) -> Result<Outline, SheetFault>
+    requires { length bytes.now ≤ 262144 }
+    ensures outline { IfOk result (λ o. IsOutlineOf bytes.now o) }
+    ensures plain { IfOk result (λ o. IsPlain o) }
+    ensures fault { IfErr result (λ fault. IsOutlineFault bytes.now fault) }
+{
+    let mut progress = Progress::first(alloc);
+    let mut place = Cursor::first();
+    while !progress.is_ended() {
+        match lexeme_from(alloc, bytes, place)? {
+            Read::Lexeme {
+                lexeme,
+                begins,
+                behind,
+            } => {
+                progress = progress.with(alloc, lexeme, line_of_place(bytes, begins))?;
+                place = behind;
+            }
+            Read::End(end) => return progress.finished(line_of_place(bytes, end)),
+        }
+    }
+    progress.finished(line_of_place(bytes, place))
+}
