@@ -7,13 +7,20 @@ use Rattle.scanning_theory.specs.Scan.{AreTokens}
 use Rattle.scanning_theory.proofs.ScanLemmas.{lines_once}
 use Rattle.scanning_theory.proofs.SomeList.{some_list}
 use Rattle.sheet_data.specs.Sheet.{Sheet}
-use Rattle.sheet_reader.proofs.ReadLemmas.{one_sheet}
+use Rattle.sheet_laws.proofs.ReadLemmas.{one_sheet}
+use Rattle.sheet_laws.proofs.FaultLemmas.{one_first_fault, no_first_fault}
+use Rattle.sheet_laws.proofs.AnswerLemmas.{some_sheet_or_fault}
+use Rattle.outline_theory.specs.Layout.{layout}
+use Rattle.first_sets.specs.UselessNames.{IsUseful, IsDue}
+use Rattle.first_sets.proofs.CauseLemmas.{useful_law, one_fault_law}
+use Rattle.lrpar_cli.specs.FaultTexts.{fault_text, useless_text}
+use Rattle.lrpar_cli.proofs.UselessLemmas.{some_useless}
 use Rattle.sheet_theory.specs.ScanOrder.{Ranked, scan_order, scanning_of}
 use Rattle.sheet_theory.specs.TokenList.{token_list}
 use Rattle.lrpar_cli.specs.declared.status.Status.{Status}
 use Rattle.lrpar_cli.specs.declared.status.Status.TheVariants.{Done, Words, Sheet as refused_sheet, TextTooLong}
-use Rattle.lrpar_cli.specs.Answer.{Accepts, Refuses, form_not_built, Answers, sheet_refused, text_too_long, tokens_listed, Ends, bad_words, by_command, text_limit, bad_words_text, sheet_form_text, long_text_text}
-use Rattle.lrpar_cli.specs.Words.{Command, Tokens, HasForm, IsBadWords, names_read}
+use Rattle.lrpar_cli.specs.Answer.{Accepts, Refuses, IsUseless, Answers, sheet_refused, text_too_long, tokens_listed, check_refused, name_refused, layout_printed, Ends, bad_words, by_command, text_limit, bad_words_text, long_text_text}
+use Rattle.lrpar_cli.specs.Words.{Command, Tokens, Check, HasForm, IsBadWords, names_read}
 use Rattle.lrpar_cli.proofs.CallLemmas.{form_unique}
 
 -- no more was read, and the two answers are the same
@@ -21,11 +28,27 @@ abbrev pub AreSame : List (List ℕ) → Status → Status → List ℕ → List
 AreSame more status other_status out other_out err other_err = (more ≡ []) × (status ≡ other_status) × (out ≡ other_out) × (err ≡ other_err)
 
 -- what is said of bytes that are no sheet's
-said_once : {bytes said : List ℕ} → Refuses bytes said → said ≡ sheet_form_text
-said_once (form_not_built refused) = refl
+said_once : (bytes said other : List ℕ) → Refuses bytes said → Refuses bytes other → said ≡ other
+said_once bytes said other one two = one.is ∙ ap fault_text (one_first_fault bytes one.fault two.fault one.first two.first) ∙ sym two.is
 
 not_refused : {bytes said : List ℕ} (sheet : Sheet) → Accepts bytes sheet → ¬ (Refuses bytes said)
-not_refused sheet accepted (form_not_built refused) = refused sheet accepted
+not_refused {bytes = bytes} sheet accepted refused = no_first_fault bytes sheet refused.fault accepted refused.first
+
+-- what is said of a useless name, and what is printed
+name_once : (bytes : List ℕ) (sheet other : Sheet) (said others : List ℕ) → Accepts bytes sheet → Accepts bytes other → IsUseless sheet said → IsUseless other others → said ≡ others
+name_once bytes sheet other said others accepted other_accepted one two =
+    let sheets : other ≡ sheet = one_sheet bytes other sheet other_accepted accepted in
+    let moved : IsUseless sheet others = subst (λ s. IsUseless s others) sheets two in
+    one.is ∙ ap (useless_text sheet) (one_fault_law sheet.grammar one.fault moved.fault one.due moved.due one.name moved.name) ∙ sym moved.is
+
+not_useful : (bytes : List ℕ) (sheet other : Sheet) (said : List ℕ) → Accepts bytes sheet → Accepts bytes other → IsUseful sheet.grammar → ¬ (IsUseless other said)
+not_useful bytes sheet other said accepted other_accepted useful h =
+    let sheets : other ≡ sheet = one_sheet bytes other sheet other_accepted accepted in
+    let moved : IsUseless sheet said = subst (λ s. IsUseless s said) sheets h in
+    moved.name (useful_law sheet.grammar moved.fault useful moved.due)
+
+layout_once : (bytes : List ℕ) (sheet other : Sheet) → Accepts bytes sheet → Accepts bytes other → layout sheet ≡ layout other
+layout_once bytes sheet other accepted other_accepted = ap layout (one_sheet bytes sheet other accepted other_accepted)
 
 -- a sheet and a text have one list of tokens
 list_once : (bytes text : List ℕ) (sheet other : Sheet) (tokens others : List Token) → Accepts bytes sheet → Accepts bytes other → AreTokens (scanning_of sheet) text tokens → AreTokens (scanning_of other) text others → token_list sheet text tokens ≡ token_list other text others
@@ -37,7 +60,9 @@ list_once bytes text sheet other tokens others accepted other_accepted are other
 module _ (sheet_name text_name bytes : List ℕ) where
   -- where the sheet was refused
   after_refused : {said : List ℕ} {all : List (List ℕ)} {status : Status} {out err : List ℕ} (more : List (List ℕ)) → Refuses bytes said → all ≡ bytes ∷ more → Answers (Tokens sheet_name text_name) all status out err → AreSame more refused_sheet status [] out said err
-  after_refused more refused e (sheet_refused other) = (cc, refl, refl, said_once refused ∙ sym (said_once other))
+  after_refused {said = said} {err = err} more refused e (sheet_refused {bytes = read} other) =
+      let same : read ≡ bytes = cc in
+      (cc, refl, refl, said_once bytes said _ refused (subst (λ b. Refuses b err) same other))
   after_refused more refused e (text_too_long {bytes = read} {sheet = sheet} accepted long) =
       let same : read ≡ bytes = cc in
       absurd (not_refused sheet (subst (λ b. Accepts b sheet) same accepted) refused)
@@ -66,11 +91,49 @@ module _ (sheet_name text_name bytes : List ℕ) where
         let lists : token_list sheet text tokens ≡ token_list other text others = list_once bytes text sheet other tokens others accepted (subst (λ b. Accepts b other) same_bytes other_accepted) are (subst (λ t. AreTokens (scanning_of other) t others) same_text other_are) in
         (cc, refl, is ∙ lists ∙ ap (λ t. token_list other t others) (sym same_text) ∙ sym other_is, refl)
 
+-- the same of a sheet that is checked
+module _ (sheet_name bytes : List ℕ) where
+  after_check_refused : {said : List ℕ} {all : List (List ℕ)} {status : Status} {out err : List ℕ} (more : List (List ℕ)) → Refuses bytes said → all ≡ bytes ∷ more → Answers (Check sheet_name) all status out err → AreSame more refused_sheet status [] out said err
+  after_check_refused {said = said} {err = err} more refused e (check_refused {bytes = read} other) =
+      let same : read ≡ bytes = cc in
+      (cc, refl, refl, said_once bytes said err refused (subst (λ b. Refuses b err) same other))
+  after_check_refused more refused e (name_refused {bytes = read} {sheet = sheet} accepted useless) =
+      let same : read ≡ bytes = cc in
+      absurd (not_refused sheet (subst (λ b. Accepts b sheet) same accepted) refused)
+  after_check_refused more refused e (layout_printed {bytes = read} {sheet = sheet} accepted useful is) =
+      let same : read ≡ bytes = cc in
+      absurd (not_refused sheet (subst (λ b. Accepts b sheet) same accepted) refused)
+
+  after_name : {said : List ℕ} {sheet : Sheet} {all : List (List ℕ)} {status : Status} {out err : List ℕ} (more : List (List ℕ)) → Accepts bytes sheet → IsUseless sheet said → all ≡ bytes ∷ more → Answers (Check sheet_name) all status out err → AreSame more refused_sheet status [] out said err
+  after_name {sheet = sheet} {err = err} more accepted useless e (check_refused {bytes = read} refused) =
+      let same : read ≡ bytes = cc in
+      absurd (not_refused sheet accepted (subst (λ b. Refuses b err) same refused))
+  after_name {said = said} {sheet = sheet} {err = err} more accepted useless e (name_refused {bytes = read} {sheet = other} other_accepted other_useless) =
+      let same : read ≡ bytes = cc in
+      (cc, refl, refl, name_once bytes sheet other said err accepted (subst (λ b. Accepts b other) same other_accepted) useless other_useless)
+  after_name {said = said} {sheet = sheet} more accepted useless e (layout_printed {bytes = read} {sheet = other} other_accepted useful is) =
+      let same : read ≡ bytes = cc in
+      absurd (not_useful bytes other sheet said (subst (λ b. Accepts b other) same other_accepted) accepted useful useless)
+
+  after_layout : {printed : List ℕ} {sheet : Sheet} {all : List (List ℕ)} {status : Status} {out err : List ℕ} (more : List (List ℕ)) → Accepts bytes sheet → IsUseful sheet.grammar → printed ≡ layout sheet → all ≡ bytes ∷ more → Answers (Check sheet_name) all status out err → AreSame more Done status printed out [] err
+  after_layout {sheet = sheet} {err = err} more accepted useful is e (check_refused {bytes = read} refused) =
+      let same : read ≡ bytes = cc in
+      absurd (not_refused sheet accepted (subst (λ b. Refuses b err) same refused))
+  after_layout {sheet = sheet} {err = err} more accepted useful is e (name_refused {bytes = read} {sheet = other} other_accepted useless) =
+      let same : read ≡ bytes = cc in
+      absurd (not_useful bytes sheet other err accepted (subst (λ b. Accepts b other) same other_accepted) useful useless)
+  after_layout {sheet = sheet} more accepted useful is e (layout_printed {bytes = read} {sheet = other} other_accepted other_useful other_is) =
+      let same : read ≡ bytes = cc in
+      (cc, refl, is ∙ layout_once bytes sheet other accepted (subst (λ b. Accepts b other) same other_accepted) ∙ sym other_is, refl)
+
 -- a command has one answer
 answer_once : {c : Command} {inputs all : List (List ℕ)} {status other_status : Status} {out other_out err other_err : List ℕ} (more : List (List ℕ)) → Answers c inputs status out err → all ≡ inputs ++ more → Answers c all other_status other_out other_err → AreSame more status other_status out other_out err other_err
 answer_once more (sheet_refused {sheet_name = sheet_name} {text_name = text_name} {bytes = bytes} refused) e answer = after_refused sheet_name text_name bytes more refused e answer
 answer_once more (text_too_long {sheet_name = sheet_name} {text_name = text_name} {bytes = bytes} {text = text} accepted long) e answer = after_long sheet_name text_name bytes text more long e answer
 answer_once more (tokens_listed {sheet_name = sheet_name} {text_name = text_name} {bytes = bytes} {text = text} tokens accepted short are is) e answer = after_listed sheet_name text_name bytes text more accepted short are is e answer
+answer_once more (check_refused {sheet_name = sheet_name} {bytes = bytes} refused) e answer = after_check_refused sheet_name bytes more refused e answer
+answer_once more (name_refused {sheet_name = sheet_name} {bytes = bytes} accepted useless) e answer = after_name sheet_name bytes more accepted useless e answer
+answer_once more (layout_printed {sheet_name = sheet_name} {bytes = bytes} accepted useful is) e answer = after_layout sheet_name bytes more accepted useful is e answer
 
 -- a call has one answer
 after_bad_words : {words all : List (List ℕ)} {status : Status} {out err : List ℕ} (more : List (List ℕ)) → IsBadWords words → all ≡ more → Ends words all status out err → AreSame more Words status [] out bad_words_text err
@@ -108,7 +171,16 @@ module _ (words : List (List ℕ)) (sheet_name text_name : List ℕ) (form : Has
       (cases_lt text_limit (length text))
 
   some_end : ⊥
-  some_end = none (bytes ∷ []) (text ∷ []) refused_sheet [] sheet_form_text refl (by_command form (sheet_refused (form_not_built none_accepted)))
+  some_end = some_sheet_or_fault bytes none_accepted (λ fault first. none (bytes ∷ []) (text ∷ []) refused_sheet [] (fault_text fault) refl (by_command form (sheet_refused (record { fault = fault; first = first; is = refl }))))
+
+-- nor after the sheet that is checked
+some_check : (words : List (List ℕ)) (sheet_name : List ℕ) → HasForm words (Check sheet_name) → (bytes : List ℕ) → HasNoEnd words (bytes ∷ []) → ⊥
+some_check words sheet_name form bytes none =
+    some_sheet_or_fault bytes
+    (λ sheet accepted. some_useless sheet.grammar
+    (λ useful. none (bytes ∷ []) [] Done (layout sheet) [] refl (by_command form (layout_printed accepted useful refl)))
+    (λ fault due name. none (bytes ∷ []) [] refused_sheet [] (useless_text sheet fault) refl (by_command form (name_refused accepted (record { fault = fault; due = due; name = name; is = refl })))))
+    (λ fault first. none (bytes ∷ []) [] refused_sheet [] (fault_text fault) refl (by_command form (check_refused (record { fault = fault; first = first; is = refl }))))
 
 -- it is refuted that a call has no answer
 pub ends_some : (words : List (List ℕ)) (command : Command) (inputs : List (List ℕ)) → HasForm words command → length inputs ≡ length (names_read command) → HasNoEnd words inputs → ⊥
@@ -116,3 +188,6 @@ ends_some words (Tokens sheet_name text_name) [] form count none = absurd (omega
 ends_some words (Tokens sheet_name text_name) (bytes ∷ []) form count none = absurd (omega (arith, count))
 ends_some words (Tokens sheet_name text_name) (bytes ∷ text ∷ []) form count none = some_end words sheet_name text_name form bytes text none
 ends_some words (Tokens sheet_name text_name) (bytes ∷ text ∷ other ∷ inputs) form count none = absurd (omega (arith, count))
+ends_some words (Check sheet_name) [] form count none = absurd (omega (arith, count))
+ends_some words (Check sheet_name) (bytes ∷ []) form count none = some_check words sheet_name form bytes none
+ends_some words (Check sheet_name) (bytes ∷ other ∷ inputs) form count none = absurd (omega (arith, count))

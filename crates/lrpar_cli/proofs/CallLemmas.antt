@@ -14,13 +14,16 @@ use Rattle.sheet_theory.specs.ScanOrder.{scanning_of}
 use Rattle.sheet_theory.specs.TokenList.{token_list, listed_tokens}
 use Rattle.lrpar_cli.specs.declared.status.Status.{Status}
 use Rattle.lrpar_cli.specs.declared.status.Status.TheVariants.{Done, Words, Sheet as refused_sheet, TextTooLong, ReadFault, WriteFault}
-use Rattle.lrpar_cli.specs.Answer.{Accepts, form_not_built, Answers, sheet_refused, text_too_long, tokens_listed, Ends, bad_words, by_command, text_limit, bad_words_text, sheet_form_text, long_text_text, read_fault_text, write_fault_text}
-use Rattle.lrpar_cli.specs.Endings.{Stands, AreRead, no_more_read, one_read, AreReadFor, IsDue, IsReadFault, due_said, fault_said, Fails, Fits, HaveRoom, AreServed, StopsEarly, IsSilent, Sinks, IsWriteFault, at_out, at_err, nothing_taken, some_taken, IsEnding, answered, read_fault, write_fault, no_memory, IsSpoken, spoken, unspoken, IsListing, listed_whole, listed_in_part, listed_cut, not_listed}
-use Rattle.lrpar_cli.specs.Inputs.{IsRead, IsRefusedSheet, IsLongText}
+use Rattle.lrpar_cli.specs.Answer.{Accepts, Refuses, IsUseless, Answers, sheet_refused, text_too_long, tokens_listed, check_refused, name_refused, layout_printed, Ends, bad_words, by_command, text_limit, bad_words_text, long_text_text, read_fault_text, write_fault_text}
+use Rattle.outline_theory.specs.Layout.{layout}
+use Rattle.first_sets.specs.UselessNames.{IsUseful}
+use Rattle.sheet_laws.proofs.FaultLemmas.{no_first_fault}
+use Rattle.lrpar_cli.specs.Endings.{Stands, AreRead, no_more_read, one_read, AreReadFor, IsDue, IsReadFault, due_said, fault_said, Fails, Fits, HaveRoom, AreServed, StopsEarly, IsSilent, Sinks, IsWriteFault, at_out, at_err, nothing_taken, some_taken, IsEnding, answered, read_fault, write_fault, no_memory, IsSpoken, spoken, unspoken, IsListing, listed_whole, listed_in_part, listed_cut, not_listed, IsWriting, written_whole, written_in_part, not_written}
+use Rattle.lrpar_cli.specs.Inputs.{IsRead, IsRefusedSheet, IsNameStop, IsLongText}
 use Rattle.lrpar_cli.specs.Stops.{IsStopSaid}
 use Rattle.lrpar_cli.specs.declared.inputs.Stop.{Stop}
 use Rattle.lrpar_cli.specs.declared.inputs.Stop.TheVariants.{Sheet as sheet_stop, TextTooLong as long_stop, ReadFault as read_stop, NoMemory as memory_stop}
-use Rattle.lrpar_cli.specs.Words.{Command, Tokens, HasForm, tokens_form, IsBadWords, names_read}
+use Rattle.lrpar_cli.specs.Words.{Command, Tokens, Check, HasForm, tokens_form, check_form, IsBadWords, names_read}
 
 -- what is printed by the names and the lines is the sheet's list of the text
 pub listed_is : (sheet : Sheet) (text : List ℕ) (names : List (List ℕ)) (starts : List ℕ) (found tokens : List Token) → names ≡ token_names sheet → starts ≡ line_starts text → found ≡ tokens
@@ -49,6 +52,9 @@ not_full (Some b) (Some a) room f g text fits fails =
 -- the words are of one form at the most
 pub form_unique : (words : List (List ℕ)) (c d : Command) → HasForm words c → HasForm words d → c ≡ d
 form_unique words c d (tokens_form p _) (tokens_form q _) = cc
+form_unique words c d (tokens_form p _) (check_form q _) = absurd (omega (arith, ap length p, ap length q))
+form_unique words c d (check_form p _) (tokens_form q _) = absurd (omega (arith, ap length p, ap length q))
+form_unique words c d (check_form p _) (check_form q _) = cc
 
 -- what was read for one form was read for the words
 pub read_for : (stands : Stands) (words : List (List ℕ)) (c : Command) (inputs : List (List ℕ)) → HasForm words c → AreRead stands (names_read c) inputs → AreReadFor stands words inputs
@@ -88,16 +94,16 @@ module _ (stands : Stands) (served words : List (List ℕ)) (shelf_before shelf_
 
     -- nor before the text was read, where the sheet is accepted
     accepted_due : (bytes : List ℕ) (sheet : Sheet) → Accepts bytes sheet → (status : Status) (out err : List ℕ) → ¬ (Answers (Tokens sheet_name text_name) (bytes ∷ []) status out err)
-    accepted_due bytes sheet accepted status out err (sheet_refused (form_not_built refused)) = refused sheet accepted
+    accepted_due bytes sheet accepted status out err (sheet_refused refused) = no_first_fault bytes sheet refused.fault accepted refused.first
 
     -- the call stops at the sheet
-    pub ending_at_sheet : (stop : Stop) (result : Status) → (stop ≡ sheet_stop → IsRefusedSheet (stands sheet_name)) → stop ≢ long_stop
+    pub ending_at_sheet : (stop : Stop) (result : Status) → ((what : List ℕ) → stop ≡ sheet_stop what → IsRefusedSheet (stands sheet_name) what) → stop ≢ long_stop
         → (stop ≡ read_stop → Rose shelf_before shelf_after) → (stop ≡ read_stop → is_listed served sheet_name ≡ false)
         → Appends sinks.out_before sinks.out_after [] → (IsSilent result → Appends sinks.err_before sinks.err_after [])
         → IsStopSaid sinks.err_before sinks.err_after sinks.err_room sinks.err_faults_before sinks.err_faults_after stop result → IsEnding stands served words shelf_before shelf_after sinks result
-    ending_at_sheet sheet_stop result refused long rose unserved kept unsaid said =
-        let r = refused refl in
-        ending_said refused_sheet result sheet_form_text (due_after_sheet r.bytes r.read (sheet_refused (form_not_built r.refused))) kept said
+    ending_at_sheet (sheet_stop what) result refused long rose unserved kept unsaid said =
+        let r = refused what refl in
+        ending_said refused_sheet result what (due_after_sheet r.bytes r.read (sheet_refused r.refused)) kept said
     ending_at_sheet long_stop result refused long rose unserved kept unsaid said = absurd (long refl)
     ending_at_sheet read_stop result refused long rose unserved kept unsaid said =
         ending_fault result (record {
@@ -116,11 +122,11 @@ module _ (stands : Stands) (served words : List (List ℕ)) (shelf_before shelf_
 
     -- the call stops at the text
     pub ending_at_text : (bytes : List ℕ) (sheet : Sheet) → IsRead (stands sheet_name) bytes → Accepts bytes sheet
-        → (stop : Stop) (result : Status) → (stop ≡ long_stop → IsLongText (stands text_name)) → stop ≢ sheet_stop
+        → (stop : Stop) (result : Status) → (stop ≡ long_stop → IsLongText (stands text_name)) → ((what : List ℕ) → stop ≢ sheet_stop what)
         → (stop ≡ read_stop → Rose shelf_before shelf_after) → (stop ≡ read_stop → is_listed served text_name ≡ false)
         → Appends sinks.out_before sinks.out_after [] → (IsSilent result → Appends sinks.err_before sinks.err_after [])
         → IsStopSaid sinks.err_before sinks.err_after sinks.err_room sinks.err_faults_before sinks.err_faults_after stop result → IsEnding stands served words shelf_before shelf_after sinks result
-    ending_at_text bytes sheet read accepted sheet_stop result long refused rose unserved kept unsaid said = absurd (refused refl)
+    ending_at_text bytes sheet read accepted (sheet_stop what) result long refused rose unserved kept unsaid said = absurd (refused what refl)
     ending_at_text bytes sheet read accepted long_stop result long refused rose unserved kept unsaid said =
         let l = long refl in
         ending_said TextTooLong result long_text_text (due_after_text bytes l.text read l.read (text_too_long accepted l.long)) kept said
@@ -149,6 +155,61 @@ module _ (stands : Stands) (served words : List (List ℕ)) (shelf_before shelf_
     ending_listing bytes text sheet result read accepted read_text short (listed_cut tokens are front kept) =
         no_memory (some_taken (due_after_text bytes text read read_text (tokens_listed tokens accepted short are refl)) front) kept
     ending_listing bytes text sheet result read accepted read_text short (not_listed out_kept err_kept) = no_memory (nothing_taken out_kept) err_kept
+
+  module _ (sheet_name : List ℕ) (form : HasForm words (Check sheet_name)) where
+    due_after_check : {status : Status} {out err : List ℕ} (bytes : List ℕ) → IsRead (stands sheet_name) bytes → Answers (Check sheet_name) (bytes ∷ []) status out err → IsDue stands words status out err
+    due_after_check bytes read answer = record {
+      inputs = bytes ∷ [];
+      read = read_for stands words (Check sheet_name) (bytes ∷ []) form (one_read read no_more_read);
+      ends = by_command form answer;
+    }
+
+    -- nothing is due before the sheet was read
+    nothing_checked : (status : Status) (out err : List ℕ) → ¬ (Answers (Check sheet_name) [] status out err)
+    nothing_checked status out err h = elim h [ ]
+
+    -- the call stops at the sheet
+    pub ending_at_check : (stop : Stop) (result : Status) → ((what : List ℕ) → stop ≡ sheet_stop what → IsRefusedSheet (stands sheet_name) what) → stop ≢ long_stop
+        → (stop ≡ read_stop → Rose shelf_before shelf_after) → (stop ≡ read_stop → is_listed served sheet_name ≡ false)
+        → Appends sinks.out_before sinks.out_after [] → (IsSilent result → Appends sinks.err_before sinks.err_after [])
+        → IsStopSaid sinks.err_before sinks.err_after sinks.err_room sinks.err_faults_before sinks.err_faults_after stop result → IsEnding stands served words shelf_before shelf_after sinks result
+    ending_at_check (sheet_stop what) result refused long rose unserved kept unsaid said =
+        let r = refused what refl in
+        ending_said refused_sheet result what (due_after_check r.bytes r.read (check_refused r.refused)) kept said
+    ending_at_check long_stop result refused long rose unserved kept unsaid said = absurd (long refl)
+    ending_at_check read_stop result refused long rose unserved kept unsaid said =
+        ending_fault result (record {
+          command = Check sheet_name;
+          form = form;
+          before = [];
+          read = no_more_read;
+          pending = nothing_checked;
+          name = sheet_name;
+          next = refl;
+          unserved = unserved refl;
+          rose = rose refl;
+        }) kept said
+    ending_at_check memory_stop result refused long rose unserved kept unsaid said =
+        subst (IsEnding stands served words shelf_before shelf_after sinks) (sym said) (no_memory (nothing_taken kept) (unsaid (subst IsSilent (sym said) tt)))
+
+    -- the call stops at a useless name
+    pub ending_at_name : (bytes : List ℕ) (sheet : Sheet) → IsRead (stands sheet_name) bytes → Accepts bytes sheet → (stop : Stop) (result : Status) → IsNameStop sheet stop
+        → Appends sinks.out_before sinks.out_after [] → (IsSilent result → Appends sinks.err_before sinks.err_after [])
+        → IsStopSaid sinks.err_before sinks.err_after sinks.err_room sinks.err_faults_before sinks.err_faults_after stop result → IsEnding stands served words shelf_before shelf_after sinks result
+    ending_at_name bytes sheet read accepted (sheet_stop what) result useless kept unsaid said =
+        ending_said refused_sheet result what (due_after_check bytes read (name_refused accepted useless)) kept said
+    ending_at_name bytes sheet read accepted long_stop result useless kept unsaid said = absurd useless
+    ending_at_name bytes sheet read accepted read_stop result useless kept unsaid said = absurd useless
+    ending_at_name bytes sheet read accepted memory_stop result useless kept unsaid said =
+        subst (IsEnding stands served words shelf_before shelf_after sinks) (sym said) (no_memory (nothing_taken kept) (unsaid (subst IsSilent (sym said) tt)))
+
+    -- the call comes to its output
+    pub ending_printing : (bytes : List ℕ) (sheet : Sheet) (result : Status) → IsRead (stands sheet_name) bytes → Accepts bytes sheet → IsUseful sheet.grammar → IsWriting (layout sheet) sinks result → IsEnding stands served words shelf_before shelf_after sinks result
+    ending_printing bytes sheet result read accepted useful (written_whole grown kept) =
+        answered (record { out = layout sheet; err = []; due = due_after_check bytes read (layout_printed accepted useful refl); out_grown = grown; err_grown = kept })
+    ending_printing bytes sheet result read accepted useful (written_in_part fails said) =
+        write_fault (at_out (due_after_check bytes read (layout_printed accepted useful refl)) fails said)
+    ending_printing bytes sheet result read accepted useful (not_written out_kept err_kept) = no_memory (nothing_taken out_kept) err_kept
 
 -- where every name that a command reads is served, no reading failed
 pub served_fault : (stands : Stands) (served words : List (List ℕ)) (f g : ℕ) (c : Command) → HasForm words c → AreServed served c
@@ -207,8 +268,8 @@ room_ending stands served words f g sinks status room (no_memory cut kept) e = a
 
 -- a stop with something to say isn't silent
 pub silent_stop : (before after : Option (List ℕ)) (room f g : ℕ) (stop : Stop) (status : Status) → IsStopSaid before after room f g stop status → IsSilent status → stop ≡ memory_stop
-silent_stop before after room f g sheet_stop status (spoken grown) silent = absurd silent
-silent_stop before after room f g sheet_stop status (unspoken failed) silent = absurd silent
+silent_stop before after room f g (sheet_stop what) status (spoken grown) silent = absurd silent
+silent_stop before after room f g (sheet_stop what) status (unspoken failed) silent = absurd silent
 silent_stop before after room f g long_stop status (spoken grown) silent = absurd silent
 silent_stop before after room f g long_stop status (unspoken failed) silent = absurd silent
 silent_stop before after room f g read_stop status (spoken grown) silent = absurd silent
@@ -222,6 +283,18 @@ listing_late sheet text sinks status (listed_in_part tokens are fails said) earl
 listing_late sheet text sinks status (listed_cut tokens are front kept) early = early
 listing_late sheet text sinks status (not_listed out_kept err_kept) early = early
 
+-- the writing of a layout is no early stop
+pub writing_late : (text : List ℕ) (sinks : Sinks) (status : Status) → IsWriting text sinks status → ¬ (StopsEarly status)
+writing_late text sinks status (written_whole grown kept) early = early
+writing_late text sinks status (written_in_part fails said) early = early
+writing_late text sinks status (not_written out_kept err_kept) early = early
+
+-- the output failed, and that was said
+pub writing_failed : {text : List ℕ} {sinks : Sinks} {status : Status} → Fails sinks.out_before sinks.out_after sinks.out_room sinks.out_faults_before sinks.out_faults_after text
+    → IsSpoken sinks.err_before sinks.err_after sinks.err_room sinks.err_faults_before sinks.err_faults_after write_fault_text WriteFault status → IsWriting text sinks status
+writing_failed fails (spoken said) = written_in_part fails (inl said)
+writing_failed fails (unspoken failed) = written_in_part fails (inr failed)
+
 -- bad words are said
 pub bad_words_ending : (stands : Stands) (served words : List (List ℕ)) (f g : ℕ) (sinks : Sinks) (result : Status) → IsBadWords words → Appends sinks.out_before sinks.out_after []
     → IsSpoken sinks.err_before sinks.err_after sinks.err_room sinks.err_faults_before sinks.err_faults_after bad_words_text Words result → IsEnding stands served words f g sinks result
@@ -230,8 +303,8 @@ bad_words_ending stands served words f g sinks result bad kept said =
 
 -- no stop is one at the words
 pub no_words_stop : (before after : Option (List ℕ)) (room f g : ℕ) (stop : Stop) (status : Status) → IsStopSaid before after room f g stop status → status ≢ Words
-no_words_stop before after room f g sheet_stop status (spoken grown) e = absurd (cc)
-no_words_stop before after room f g sheet_stop status (unspoken failed) e = absurd (cc)
+no_words_stop before after room f g (sheet_stop what) status (spoken grown) e = absurd (cc)
+no_words_stop before after room f g (sheet_stop what) status (unspoken failed) e = absurd (cc)
 no_words_stop before after room f g long_stop status (spoken grown) e = absurd (cc)
 no_words_stop before after room f g long_stop status (unspoken failed) e = absurd (cc)
 no_words_stop before after room f g read_stop status (spoken grown) e = absurd (cc)

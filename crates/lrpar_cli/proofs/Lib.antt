@@ -3,3 +3,4 @@ pub mod BlockLemmas
 pub mod CallLemmas
 pub mod InputLemmas
 pub mod WordLemmas
+pub mod UselessLemmas

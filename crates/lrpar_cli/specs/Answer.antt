@@ -1,15 +1,21 @@
 -- What the program answers: one relation between what it was given (its words, and the bytes that it had to read) and its
 -- status with the bytes that its output and its error output take.
-use Rattle.std.specs.Prelude.{◌≡◌, ℕ, ◌<◌, ◌≤◌, List, [], ◌∷◌, length, codes}
+use Rattle.std.specs.Prelude.{◌≡◌, ◌≢◌, ℕ, ◌<◌, ◌≤◌, List, [], ◌∷◌, length, codes}
 use Rattle.grammar_data.specs.declared.token.Token.{Token}
 use Rattle.scanning_theory.specs.Scan.{AreTokens}
 use Rattle.sheet_data.specs.Sheet.{Sheet}
 use Rattle.sheet_theory.specs.ScanOrder.{scanning_of}
 use Rattle.sheet_theory.specs.TokenList.{token_list}
-use Rattle.sheet_reader.specs.FirstForm.{IsFirstForm}
+use Rattle.outline_data.specs.declared.fault.SheetFault.{SheetFault}
+use Rattle.outline_theory.specs.Layout.{layout}
+use Rattle.outline_theory.specs.Reading.{Reads, IsFirstFault}
+use Rattle.first_sets.specs.declared.fault.UselessFault.{UselessFault}
+use Rattle.first_sets.specs.declared.fault.UselessFault.TheVariants.{NoMemory as exhausted}
+use Rattle.first_sets.specs.UselessNames.{IsUseful, IsDue}
 use Rattle.lrpar_cli.specs.declared.status.Status.{Status}
 use Rattle.lrpar_cli.specs.declared.status.Status.TheVariants.{Done, Words, Sheet as refused_sheet, TextTooLong}
-use Rattle.lrpar_cli.specs.Words.{Command, Tokens, HasForm, IsBadWords}
+use Rattle.lrpar_cli.specs.Words.{Command, Tokens, Check, HasForm, IsBadWords}
+use Rattle.lrpar_cli.specs.FaultTexts.{fault_text, useless_text}
 
 -- the most bytes that a text may have
 abbrev pub text_limit : ℕ
@@ -17,9 +23,6 @@ text_limit = 8388608
 
 abbrev pub bad_words_text : List ℕ
 bad_words_text = codes "bad words\n"
-
-abbrev pub sheet_form_text : List ℕ
-sheet_form_text = codes "sheet form not built\n"
 
 abbrev pub long_text_text : List ℕ
 long_text_text = codes "text too long\n"
@@ -32,17 +35,29 @@ write_fault_text = codes "write fault\n"
 
 -- the bytes are a sheet's
 abbrev pub Accepts : List ℕ → Sheet → Type 0
-Accepts bytes sheet = IsFirstForm bytes sheet
+Accepts bytes sheet = Reads bytes sheet
 
--- the bytes are no sheet's, and this is said of them
-pub data Refuses (bytes : List ℕ) : List ℕ → Type 0 where
-  form_not_built : ((sheet : Sheet) → ¬ (Accepts bytes sheet)) → Refuses bytes sheet_form_text
+-- the bytes are no sheet's, and this is said of their first fault
+pub record Refuses (bytes said : List ℕ) : Type 0 where
+  pub fault : SheetFault
+  pub first : IsFirstFault bytes fault
+  pub is : said ≡ fault_text fault
+
+-- a name of the sheet is useless, and this is said of the first
+pub record IsUseless (sheet : Sheet) (said : List ℕ) : Type 0 where
+  pub fault : UselessFault
+  pub due : IsDue sheet.grammar fault
+  pub name : fault ≢ exhausted
+  pub is : said ≡ useless_text sheet fault
 
 -- what a command answers where these inputs had to be read, under the first of its names in their order
 pub data Answers : Command → List (List ℕ) → Status → List ℕ → List ℕ → Type 0 where
   sheet_refused : {sheet_name text_name bytes said : List ℕ} → Refuses bytes said → Answers (Tokens sheet_name text_name) (bytes ∷ []) refused_sheet [] said
   text_too_long : {sheet_name text_name bytes text : List ℕ} {sheet : Sheet} → Accepts bytes sheet → text_limit < length text → Answers (Tokens sheet_name text_name) (bytes ∷ text ∷ []) TextTooLong [] long_text_text
   tokens_listed : {sheet_name text_name bytes text listed : List ℕ} {sheet : Sheet} (tokens : List Token) → Accepts bytes sheet → length text ≤ text_limit → AreTokens (scanning_of sheet) text tokens → listed ≡ token_list sheet text tokens → Answers (Tokens sheet_name text_name) (bytes ∷ text ∷ []) Done listed []
+  check_refused : {sheet_name bytes said : List ℕ} → Refuses bytes said → Answers (Check sheet_name) (bytes ∷ []) refused_sheet [] said
+  name_refused : {sheet_name bytes said : List ℕ} {sheet : Sheet} → Accepts bytes sheet → IsUseless sheet said → Answers (Check sheet_name) (bytes ∷ []) refused_sheet [] said
+  layout_printed : {sheet_name bytes printed : List ℕ} {sheet : Sheet} → Accepts bytes sheet → IsUseful sheet.grammar → printed ≡ layout sheet → Answers (Check sheet_name) (bytes ∷ []) Done printed []
 
 -- what a call answers
 pub data Ends (words : List (List ℕ)) : List (List ℕ) → Status → List ℕ → List ℕ → Type 0 where

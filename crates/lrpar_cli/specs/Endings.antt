@@ -111,6 +111,12 @@ pub data IsListing (sheet : Sheet) (text : List ℕ) (sinks : Sinks) : Status �
   listed_cut : (tokens : List Token) → AreTokens (scanning_of sheet) text tokens → AppendsFront sinks.out_before sinks.out_after (token_list sheet text tokens) → Appends sinks.err_before sinks.err_after [] → IsListing sheet text sinks NoMemory
   not_listed : Appends sinks.out_before sinks.out_after [] → Appends sinks.err_before sinks.err_after [] → IsListing sheet text sinks NoMemory
 
+-- how the writing of a text that is due on the output may end
+pub data IsWriting (text : List ℕ) (sinks : Sinks) : Status → Type 0 where
+  written_whole : Appends sinks.out_before sinks.out_after text → Appends sinks.err_before sinks.err_after [] → IsWriting text sinks Done
+  written_in_part : Fails sinks.out_before sinks.out_after sinks.out_room sinks.out_faults_before sinks.out_faults_after text → IsFaultSaid sinks → IsWriting text sinks WriteFault
+  not_written : Appends sinks.out_before sinks.out_after [] → Appends sinks.err_before sinks.err_after [] → IsWriting text sinks NoMemory
+
 -- told bytes have so much sure room left that no write of the text fails
 abbrev pub Fits : Option (List ℕ) → ℕ → List ℕ → Type 0
 Fits taken room text = IsSomeAnd taken (λ bytes. length bytes + length text < room)

@@ -1,5 +1,6 @@
 pub mod Codes
 pub mod Words
+pub mod FaultTexts
 pub mod Answer
 pub mod Blocks
 pub mod Inputs

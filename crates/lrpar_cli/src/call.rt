@@ -1,21 +1,20 @@
 ghost use Rattle.std.specs.Prelude.{◌≡◌, ◌≢◌, ◌≤◌, ◌⊎◌, length, List, ℕ, map, string_bytes};
+ghost use Rattle.outline_theory.specs.Layout.{layout};
 ghost use Rattle.lrpar_cli.specs.Answer.{text_limit};
-ghost use Rattle.lrpar_cli.specs.Endings.{IsEnding, IsListing, IsSpoken, HaveRoom, AreServed, StopsEarly, IsSilent};
+ghost use Rattle.lrpar_cli.specs.Endings.{IsEnding, IsListing, IsWriting, IsSpoken, HaveRoom, AreServed, StopsEarly, IsSilent};
 ghost use Rattle.lrpar_cli.specs.Stops.{IsStopSaid};
-ghost use Rattle.lrpar_cli.specs.Words.{Command, Tokens, HasForm, IsBadWords, IsCommand};
+ghost use Rattle.lrpar_cli.specs.Words.{Command, Tokens, Check, HasForm, IsBadWords, IsCommand};
 
-use crate::inputs::{Stop, lex_text, read_accepted, read_text};
+use crate::inputs::{Stop, check_names, lex_text, read_accepted, read_text};
 use crate::status::Status;
 use crate::token_list::{ListFault, write_list};
 use crate::words::{Command as Asked, command_of};
 use lr_base::{Gate, Shelf, Sink, write_all};
-use sheet_reader::Sheet;
+use sheet_reader::{Sheet, print_sheet};
 use std::alloc::Global;
 use std::thread::Threads;
 
 const BAD_WORDS: &[u8] = b"bad words\n";
-
-const SHEET_FORM: &[u8] = b"sheet form not built\n";
 
 const LONG_TEXT: &[u8] = b"text too long\n";
 
@@ -43,7 +42,7 @@ fn say_stop<E: Sink>(err: &mut E, stop: Stop) -> Status
     ensures room { E.room err.new ≡ E.room err.old }
 {
     match stop {
-        Stop::Sheet => say(err, SHEET_FORM, Status::Sheet),
+        Stop::Sheet(said) => say(err, said.as_slice(), Status::Sheet),
         Stop::TextTooLong => say(err, LONG_TEXT, Status::TextTooLong),
         Stop::ReadFault => say(err, READ_FAULT, Status::ReadFault),
         Stop::NoMemory => Status::NoMemory,
@@ -137,6 +136,79 @@ fn list_tokens<S: Shelf, O: Sink, E: Sink>(
     write_tokens(alloc, &sheet, &text, out, err)
 }
 
+/// Writes a sheet's normal layout.
+fn write_layout<O: Sink, E: Sink>(alloc: Global, sheet: &Sheet, out: &mut O, err: &mut E) -> Status
+    ensures writing { IsWriting (layout sheet.now) (record {
+      out_room = O.room out.old;
+      err_room = E.room err.old;
+      out_before = O.taken out.old;
+      out_after = O.taken out.new;
+      out_faults_before = O.faults out.old;
+      out_faults_after = O.faults out.new;
+      err_before = E.taken err.old;
+      err_after = E.taken err.new;
+      err_faults_before = E.faults err.old;
+      err_faults_after = E.faults err.new;
+    }) result }
+    ensures early { ¬ (StopsEarly result) }
+    ensures silent { IsSilent result → err.new ≡ err.old }
+    ensures out_later { O.faults out.old ≤ O.faults out.new }
+    ensures out_room { O.room out.new ≡ O.room out.old }
+    ensures err_later { E.faults err.old ≤ E.faults err.new }
+    ensures err_room { E.room err.new ≡ E.room err.old }
+{
+    let text = match print_sheet(alloc, sheet) {
+        Ok(text) => text,
+        Err(_) => return Status::NoMemory,
+    };
+    match write_all(out, &text) {
+        Ok(()) => Status::Done,
+        Err(_) => say(err, WRITE_FAULT, Status::WriteFault),
+    }
+}
+
+/// `check SHEET`: reads the sheet, looks for useless names, and writes the normal layout.
+fn check_sheet<S: Shelf, O: Sink, E: Sink>(
+    alloc: Global,
+    sheet_name: &str,
+    shelf: &mut S,
+    out: &mut O,
+    err: &mut E,
+) -> Status
+    ensures ending { (words : List (List ℕ)) → HasForm words (Check sheet_name.now)
+        → IsEnding (S.stands shelf.old) (S.served shelf.old) words (S.faults shelf.old) (S.faults shelf.new) (record {
+          out_room = O.room out.old;
+          err_room = E.room err.old;
+          out_before = O.taken out.old;
+          out_after = O.taken out.new;
+          out_faults_before = O.faults out.old;
+          out_faults_after = O.faults out.new;
+          err_before = E.taken err.old;
+          err_after = E.taken err.new;
+          err_faults_before = E.faults err.old;
+          err_faults_after = E.faults err.new;
+        }) result }
+    ensures early { StopsEarly result → out.new ≡ out.old }
+    ensures silent { IsSilent result → err.new ≡ err.old }
+    ensures words { result ≢ Status.Words }
+    ensures stands { S.stands shelf.new ≡ S.stands shelf.old }
+    ensures served { S.served shelf.new ≡ S.served shelf.old }
+    ensures later { S.faults shelf.old ≤ S.faults shelf.new }
+    ensures out_later { O.faults out.old ≤ O.faults out.new }
+    ensures out_room { O.room out.new ≡ O.room out.old }
+    ensures err_later { E.faults err.old ≤ E.faults err.new }
+    ensures err_room { E.room err.new ≡ E.room err.old }
+{
+    let sheet = match read_accepted(alloc, shelf, sheet_name) {
+        Ok(sheet) => sheet,
+        Err(stop) => return say_stop(err, stop),
+    };
+    match check_names(alloc, &sheet) {
+        Ok(()) => write_layout(alloc, &sheet, out, err),
+        Err(stop) => say_stop(err, stop),
+    }
+}
+
 /// Does what a command asks for.
 fn run<S: Shelf, O: Sink, E: Sink>(
     alloc: Global,
@@ -171,6 +243,7 @@ fn run<S: Shelf, O: Sink, E: Sink>(
 {
     match command {
         Asked::Tokens { sheet, text } => list_tokens(alloc, sheet, text, shelf, out, err),
+        Asked::Check { sheet } => check_sheet(alloc, sheet, shelf, out, err),
     }
 }
 

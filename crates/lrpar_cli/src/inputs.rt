@@ -1,24 +1,32 @@
-ghost use Rattle.std.specs.Prelude.{◌≡◌, ◌≢◌, ◌≤◌, ◌<◌, false, length, List, ℕ, IfOk};
+ghost use Rattle.std.specs.Prelude.{◌≡◌, ◌≢◌, ◌≤◌, ◌<◌, false, length, List, ℕ, IfOk, IfErr, MatchOption};
 ghost use Rattle.lr_base.specs.Outside.{Rose, is_listed};
 ghost use Rattle.scanning_theory.specs.Lines.{line_starts};
 ghost use Rattle.scanning_theory.specs.Scan.{AreTokens};
 ghost use Rattle.sheet_theory.specs.ScanOrder.{scanning_of};
+ghost use Rattle.outline_data.specs.declared.fault.LimitKind.TheVariants.{SheetBytes};
+ghost use Rattle.outline_data.specs.declared.fault.SheetFault.TheVariants.{Limit};
+ghost use Rattle.first_sets.specs.UselessNames.{IsUseful, IsDue};
 ghost use Rattle.lrpar_cli.specs.Answer.{Accepts, text_limit};
-ghost use Rattle.lrpar_cli.specs.Inputs.{IsRefusedSheet, IsLongText, IsRead};
+ghost use Rattle.lrpar_cli.specs.FaultTexts.{fault_text as text_of_fault, useless_text as text_of_useless};
+ghost use Rattle.lrpar_cli.specs.Inputs.{IsRefusal, IsRefusedBy, IsNameStop, IsRefusedSheet, IsLongText, IsRead};
 
+use crate::fault_texts::{fault_text, useless_text};
+use first_sets::{UselessFault, analyse};
 use grammar_data::Token;
 use line_lexer::{Lines, lex_lines};
-use lr_base::{NoMemory, ReadFault, SHEET_BYTES, Shelf, TEXT_BYTES, Text, read_all};
-use sheet_reader::{Sheet, SheetFault, read_sheet};
+use lr_base::{Grammar, NoMemory, ReadFault, SHEET_BYTES, Shelf, TEXT_BYTES, Text, read_all};
+use sheet_data::Bytes;
+use sheet_reader::{LimitKind, Sheet, SheetFault, read_sheet};
 use std::alloc::Global;
 use thiserror::Error;
 use token_patterns::{Scanner, ScannerFault};
 
 /// Why a command does not come to its output.
-#[derive(Clone, Copy, Debug, PartialEq, Eq, Error)]
+#[derive(Debug, Drop, Error)]
 pub enum Stop {
+    /// The sheet is refused, and this is said of it.
     #[error("the sheet is refused")]
-    Sheet,
+    Sheet(Bytes),
     #[error("the text is too long")]
     TextTooLong,
     #[error("an input can't be read")]
@@ -27,10 +35,20 @@ pub enum Stop {
     NoMemory,
 }
 
+/// The refusal of a sheet with a fault.
+fn refusal(alloc: Global, fault: SheetFault) -> Stop
+    ensures { IsRefusal (text_of_fault fault) result }
+{
+    match fault_text(alloc, fault) {
+        Ok(text) => Stop::Sheet(Bytes::from_vec(text)),
+        Err(_) => Stop::NoMemory,
+    }
+}
+
 /// Reads a sheet, which has to be accepted.
 pub fn read_accepted<S: Shelf>(alloc: Global, shelf: &mut S, name: &str) -> Result<Sheet, Stop>
     ensures accepted { IfOk result (λ sheet. (bytes : List ℕ) × IsRead (S.stands shelf.old name.now) bytes × Accepts bytes sheet) }
-    ensures refused { result ≡ Err Stop.Sheet → IsRefusedSheet (S.stands shelf.old name.now) }
+    ensures refused { (said : List ℕ) → result ≡ Err (Stop.Sheet said) → IsRefusedSheet (S.stands shelf.old name.now) said }
     ensures long { result ≢ Err Stop.TextTooLong }
     ensures rose { result ≡ Err Stop.ReadFault → Rose (S.faults shelf.old) (S.faults shelf.new) }
     ensures unserved { result ≡ Err Stop.ReadFault → is_listed (S.served shelf.old) name.now ≡ false }
@@ -40,14 +58,68 @@ pub fn read_accepted<S: Shelf>(alloc: Global, shelf: &mut S, name: &str) -> Resu
 {
     let bytes = match read_all(alloc, shelf, name, SHEET_BYTES) {
         Ok(Text::Whole(bytes)) => bytes,
-        Ok(Text::TooLong) => return Err(Stop::Sheet),
+        Ok(Text::TooLong) => return Err(too_long_sheet(alloc)),
         Err(ReadFault::Failed) => return Err(Stop::ReadFault),
         Err(ReadFault::NoMemory) => return Err(Stop::NoMemory),
     };
-    match read_sheet(alloc, &bytes) {
+    match accept(alloc, &bytes) {
         Ok(sheet) => Ok(sheet),
-        Err(SheetFault::FormNotBuilt) => Err(Stop::Sheet),
+        Err(stop) => Err(stop),
+    }
+}
+
+/// The refusal of a sheet with too many bytes.
+fn too_long_sheet(alloc: Global) -> Stop
+    ensures { IsRefusal (text_of_fault (Limit SheetBytes 262145)) result }
+{
+    refusal(
+        alloc,
+        SheetFault::Limit(LimitKind::SheetBytes, SHEET_BYTES as u64 + 1),
+    )
+}
+
+/// The sheet of these bytes, or what is said of their first fault.
+fn accept(alloc: Global, bytes: &[u8]) -> Result<Sheet, Stop>
+    ensures accepted { IfOk result (λ sheet. Accepts bytes.now sheet) }
+    ensures refused { IfErr result (λ stop. IsRefusedBy bytes.now stop) }
+{
+    match read_sheet(alloc, bytes) {
+        Ok(sheet) => Ok(sheet),
         Err(SheetFault::NoMemory) => Err(Stop::NoMemory),
+        Err(fault) => Err(refusal(alloc, fault)),
+    }
+}
+
+/// The first useless name of a grammar.
+fn find_useless(alloc: Global, grammar: &Grammar) -> Option<UselessFault>
+    ensures { MatchOption result (IsUseful grammar.now) (IsDue grammar.now) }
+{
+    let Err(fault) = analyse(alloc, grammar) else {
+        return None;
+    };
+    Some(fault)
+}
+
+/// The refusal of a sheet with a useless name.
+fn name_refusal(alloc: Global, sheet: &Sheet, fault: UselessFault) -> Stop
+    requires { IsDue sheet.now.grammar fault }
+    ensures { IsRefusal (text_of_useless sheet.now fault) result }
+{
+    match useless_text(alloc, sheet, fault) {
+        Ok(text) => Stop::Sheet(Bytes::from_vec(text)),
+        Err(_) => Stop::NoMemory,
+    }
+}
+
+/// Looks for useless names.
+pub fn check_names(alloc: Global, sheet: &Sheet) -> Result<(), Stop>
+    ensures useful { IfOk result (λ _. IsUseful sheet.now.grammar) }
+    ensures refused { IfErr result (λ stop. IsNameStop sheet.now stop) }
+{
+    match find_useless(alloc, sheet.grammar()) {
+        None => Ok(()),
+        Some(UselessFault::NoMemory) => Err(Stop::NoMemory),
+        Some(fault) => Err(name_refusal(alloc, sheet, fault)),
     }
 }
 
@@ -55,7 +127,7 @@ pub fn read_accepted<S: Shelf>(alloc: Global, shelf: &mut S, name: &str) -> Resu
 pub fn read_text<S: Shelf>(alloc: Global, shelf: &mut S, name: &str) -> Result<Vec<u8>, Stop>
     ensures whole { IfOk result (λ text. IsRead (S.stands shelf.old name.now) text.items × (length text.items ≤ text_limit)) }
     ensures long { result ≡ Err Stop.TextTooLong → IsLongText (S.stands shelf.old name.now) }
-    ensures sheet { result ≢ Err Stop.Sheet }
+    ensures sheet { (said : List ℕ) → result ≢ Err (Stop.Sheet said) }
     ensures rose { result ≡ Err Stop.ReadFault → Rose (S.faults shelf.old) (S.faults shelf.new) }
     ensures unserved { result ≡ Err Stop.ReadFault → is_listed (S.served shelf.old) name.now ≡ false }
     ensures later { S.faults shelf.old ≤ S.faults shelf.new }

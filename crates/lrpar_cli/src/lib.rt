@@ -2,6 +2,7 @@
 #![tactic(auto)]
 
 mod call;
+mod fault_texts;
 mod inputs;
 mod laws;
 mod status;

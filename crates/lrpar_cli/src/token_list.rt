@@ -47,7 +47,7 @@ impl From<Failed> for ListFault {
 }
 
 /// Adds a number in decimal digits.
-fn push_number(list: &mut Vec<u8>, number: u64) -> Result<(), AllocError>
+pub fn push_number(list: &mut Vec<u8>, number: u64) -> Result<(), AllocError>
     ensures { OnOk result (list.new.items ≡ list.old.items ++ decimal number) }
 {
     let mut digits = Buffer::new();

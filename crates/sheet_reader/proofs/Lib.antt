@@ -1,10 +1,7 @@
-pub mod Cuts
-pub mod Indexed
-pub mod Places
+pub mod LayoutLemmas
+pub mod MadeLemmas
+pub mod PartLemmas
 pub mod RankLemmas
 pub mod ReadLemmas
-pub mod RuleLines
 pub mod SheetLemmas
 pub mod TextLemmas
-pub mod TokenChecks
-pub mod TokenLines

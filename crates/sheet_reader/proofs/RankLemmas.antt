@@ -2,8 +2,8 @@
 use Rattle.std.proofs.Common.{◌≡◌, ℕ, cond, ◌+◌, ◌<◌, ◌≤◌, List, [], ◌∷◌, ◌++◌, length, map, take, get_or, sum, refl, sym, ap, subst, ◌∙◌, arith}
 use Rattle.std.specs.Prelude.{All, sum_by, slice_get, Some, Result, Ok, Err, IfOk}
 use Rattle.std.specs.List.{range_with_len}
-use Rattle.std.proofs.lemmas.List.{append_assoc, append-nil, length-map, length-append, length_push, length-take-le, map-append, take_more}
-use Rattle.std.proofs.lemmas.List.Elements.{All-head, All-tail, All-nil, All-cons}
+use Rattle.std.proofs.lemmas.List.{append_assoc, append-nil, length-map, length-append, length_push, length-take-le, map-append, take_more, get_or_default}
+use Rattle.std.proofs.lemmas.List.Elements.{All-head, All-tail, All-nil, All-cons, All-append}
 use Rattle.std.proofs.lemmas.List.FromFn.{length-map-range_with_len, map-range_with_len_more, length-range_with_len}
 use Rattle.std.proofs.lemmas.List.Sums.{sum_by-cons}
 use Rattle.std.proofs.lemmas.Option.{slice_get-get_or, slice_get-map, slice_get_within, get_or_from_slice_get}
@@ -16,16 +16,27 @@ use Rattle.sheet_data.specs.declared.parts.Decl.TheVariants.{Literal, Matched, S
 use Rattle.sheet_theory.specs.Names.{declared_names}
 use Rattle.sheet_theory.specs.ScanOrder.{Ranked, scan_order, ranked_literal, declared_literals, unnamed_literals, declared_patterns}
 use Rattle.sheet_reader.specs.Ranking.{IsOfLiteral, IsScannable, is_token, token_count, RanksLiterals}
-use Rattle.sheet_reader.specs.WellFormed.{IsLiteralDecl, name_of, bytes_of, literals_by_token, IsWellFormed}
+use Rattle.sheet_reader.specs.WellFormed.{IsLiteralDecl, IsLiteralText, name_of, bytes_of, literals_by_token, IsWellFormed}
 use Rattle.sheet_reader.specs.declared.scan_order.ScanOrder.{ScanOrder}
 
-pub rank_push : (old new : ScanOrder) (literals : List (List ℕ)) (bytes : List ℕ) → new.patterns.items ≡ old.patterns.items ++ literal_pattern bytes ∷ [] → new.means.items ≡ old.means.items ++ Token (length old.means.items) ∷ [] → RanksLiterals old literals → RanksLiterals new (literals ++ bytes ∷ [])
-rank_push old new literals bytes patterns means ranks = record {
+pub rank_push : (old new : ScanOrder) (literals : List (List ℕ)) (bytes : List ℕ) → IsLiteral bytes → new.patterns.items ≡ old.patterns.items ++ literal_pattern bytes ∷ [] → new.means.items ≡ old.means.items ++ Token (length old.means.items) ∷ [] → RanksLiterals old literals → RanksLiterals new (literals ++ bytes ∷ [])
+rank_push old new literals bytes good patterns means ranks = record {
+  each = All-append IsLiteral literals (bytes ∷ []) ranks.each (All-cons IsLiteral bytes [] good (All-nil IsLiteral));
   patterns = patterns ∙ ap (λ ps. ps ++ literal_pattern bytes ∷ []) ranks.patterns ∙ sym (map-append literal_pattern literals (bytes ∷ []));
   means =
       let size : length old.means.items ≡ length literals = ap length ranks.means ∙ length-map-range_with_len Token 0 (length literals) in
       let last : 0 + length literals ≡ length literals = omega arith in
       means ∙ ap (λ n. old.means.items ++ Token n ∷ []) size ∙ ap (λ ms. ms ++ Token (length literals) ∷ []) ranks.means ∙ sym (map-range_with_len_more Token 0 (length literals) (length literals) last) ∙ ap (λ n. map Token (range_with_len 0 n)) (sym (length_push literals bytes));
+}
+
+-- bytes without a line feed, of which there are some, are a literal's
+pub literal_of : (bytes : List ℕ) → IsLiteralText bytes → ((i : ℕ) → get_or bytes i 0 < 256) → IsLiteral bytes
+literal_of bytes text ranges = record {
+  some = text.0;
+  each = λ k d within. (
+    (let same : get_or bytes k d ≡ get_or bytes k 0 = get_or_default bytes k d 0 within in let small : get_or bytes k 0 < 256 = ranges k in omega (arith, same, small)),
+    λ feed. text.1 (k, within, get_or_default bytes k 10 d within ∙ feed),
+  );
 }
 
 pub rank_size : (order : ScanOrder) (literals : List (List ℕ)) → RanksLiterals order literals → length order.means.items ≡ length literals
@@ -106,7 +117,7 @@ scannable_list literals each few small = record {
 }
 
 pub scannable : (sheet : Sheet) (order : ScanOrder) → IsWellFormed sheet → RanksLiterals order (literals_by_token sheet) → IsScannable order.patterns.items
-scannable sheet order good ranks = subst IsScannable (sym ranks.patterns) (scannable_list (literals_by_token sheet) good.literals good.count good.bytes)
+scannable sheet order good ranks = subst IsScannable (sym ranks.patterns) (scannable_list (literals_by_token sheet) ranks.each good.count good.bytes)
 
 pub one_meaning_each : (sheet : Sheet) (order : ScanOrder) → RanksLiterals order (literals_by_token sheet) → length order.patterns.items ≡ length order.means.items
 one_meaning_each sheet order ranks =
@@ -122,11 +133,11 @@ tokens_of_order sheet order good ranks =
     ap token_count ranks.means ∙ all_tokens (range_with_len 0 (length (literals_by_token sheet))) ∙ omega (arith, length-range_with_len 0 (length (literals_by_token sheet)), length-append (map bytes_of sheet.decls) sheet.literals, length-map sheet.decls bytes_of, ap length (all_names_declared sheet.decls good.decls), length-map sheet.decls name_of, good.tokens)
 
 -- the loops
-pub literal_at : (decls : List Decl) → All IsLiteral (map bytes_of decls) → (i : ℕ) (decl : Decl) (bytes : List ℕ) → i < length decls → decl ≡ get_or decls i decl → bytes ≡ bytes_of decl → IsLiteral bytes
+pub literal_at : (decls : List Decl) → All IsLiteralText (map bytes_of decls) → (i : ℕ) (decl : Decl) (bytes : List ℕ) → i < length decls → decl ≡ get_or decls i decl → bytes ≡ bytes_of decl → IsLiteralText bytes
 literal_at decls each i decl bytes within read is =
     let here : slice_get decls i ≡ Some decl = slice_get-get_or decls i decl within ∙ ap Some (sym read) in
     let found : slice_get (map bytes_of decls) i ≡ Some (bytes_of decl) = rw (slice_get-map bytes_of decls i, here) refl in
-    subst IsLiteral (get_or_from_slice_get (map bytes_of decls) i (bytes_of decl) [] found ∙ sym is) (each i [] (slice_get_within (map bytes_of decls) i (bytes_of decl) found))
+    subst IsLiteralText (get_or_from_slice_get (map bytes_of decls) i (bytes_of decl) [] found ∙ sym is) (each i [] (slice_get_within (map bytes_of decls) i (bytes_of decl) found))
 
 pub few_so_far : (order : ScanOrder) (decls : List Decl) (i : ℕ) → i < length decls → length decls ≤ 250 → RanksLiterals order (map bytes_of (take i decls)) → length order.means.items < 250
 few_so_far order decls i within few ranks =
@@ -136,11 +147,11 @@ pub ranked_more : (order : ScanOrder) (before ls : List (List ℕ)) (i : ℕ) (b
 ranked_more order before ls i bytes item within read is ranks =
     subst (RanksLiterals order) (append_assoc before (take i ls) (bytes ∷ []) ∙ ap (λ b. before ++ (take i ls ++ b ∷ [])) (is ∙ read) ∙ ap (λ l. before ++ l) (sym (take_more ls i item within))) ranks
 
-all_right : (xs ys : List (List ℕ)) → All IsLiteral (xs ++ ys) → All IsLiteral ys
+all_right : (xs ys : List (List ℕ)) → All IsLiteralText (xs ++ ys) → All IsLiteralText ys
 all_right [] ys h = h
-all_right (x ∷ xs) ys h = all_right xs ys (All-tail IsLiteral x (xs ++ ys) h)
+all_right (x ∷ xs) ys h = all_right xs ys (All-tail IsLiteralText x (xs ++ ys) h)
 
-pub each_unnamed : (sheet : Sheet) → IsWellFormed sheet → All IsLiteral sheet.literals
+pub each_unnamed : (sheet : Sheet) → IsWellFormed sheet → All IsLiteralText sheet.literals
 each_unnamed sheet good = all_right (map bytes_of sheet.decls) sheet.literals good.literals
 
 pub few_unnamed : (sheet : Sheet) (order : ScanOrder) (decls : List Decl) (literals : List (List ℕ)) → IsWellFormed sheet → decls ≡ sheet.decls → literals ≡ sheet.literals → RanksLiterals order (map bytes_of decls) → length order.means.items + length literals ≤ 250

@@ -1,62 +1,68 @@
--- Bytes of the first form have one token part, and one rule behind it.
-use Rattle.std.proofs.Common.{◌≡◌, ℕ, ◌≤◌, List, [], ◌∷◌, ◌++◌, length, map, refl, sym, ap, subst, ◌∙◌}
-use Rattle.std.specs.Prelude.{All, codes}
-use Rattle.std.specs.List.{flat_map}
-use Rattle.std.proofs.lemmas.List.Elements.{All-head, All-tail, All-nil, All-cons}
-use Rattle.sheet_data.specs.Sheet.{Sheet}
-use Rattle.sheet_reader.specs.FirstForm.{FirstForm, AreTokens, names_of, literals_of, name_at, sheet_of, IsFirstForm}
-use Rattle.sheet_reader.specs.Spelling.{IsName, IsQuotable, token_line, rule_line}
-use Rattle.sheet_reader.specs.Reading.{IsTokenLine, IsTokenPart, IsRuleLine}
-use Rattle.sheet_reader.specs.declared.token_line.TokenLine.{TokenLine}
-use Rattle.sheet_reader.proofs.RuleLines.{same_rule}
-use Rattle.sheet_reader.proofs.TokenLines.{same_part}
+-- What a refusal says.
+use Rattle.std.proofs.Common.{◌≡◌, ◌≢◌, ℕ, ◌+◌, ◌≤◌, ◌<◌, ◌^◌, List, [], ◌∷◌, length, Bool, true, false, refl, sym, ap, subst, arith, inl, inr}
+use Rattle.std.specs.Prelude.{sum_by, ◌==◌}
+use Rattle.std.proofs.lemmas.Bool.Decides.{nat_tests}
+use Rattle.outline_data.specs.declared.fault.SheetFault.{SheetFault}
+use Rattle.outline_data.specs.declared.fault.SheetFault.TheVariants.{BadByte, Syntax, FormNotBuilt, BadPattern, PatternMatchesEmpty, Redeclared, UnknownSymbol, NoRules, PlaceOutOfRange, PlaceTwice, NotAToken, Limit, NoMemory}
+use Rattle.outline_data.specs.Parts.{OutlineParts}
+use Rattle.outline_theory.specs.Outlines.{IsOutlineOf, IsPlain}
+use Rattle.outline_theory.specs.Numbering.{token_literals}
+use Rattle.outline_theory.specs.Reading.{HasOutline, IsFaultless, IsFirstFault}
+use Rattle.outline_reader.specs.Faults.{IsOutlineFault}
+use Rattle.outline_numbers.specs.Numbered.{IsLimitFault}
+use Rattle.sheet_laws.proofs.SizeLemmas.{literals_within}
+use Rattle.sheet_laws.proofs.SheetLemmas.{sheet_some}
+use Rattle.sheet_reader.specs.Faults.{IsReadFault, IsOutlineRefused}
 
-all_lines_good : (tokens : List TokenLine) → All IsName (names_of tokens) → All IsQuotable (literals_of tokens) → All IsTokenLine tokens
-all_lines_good [] names literals = All-nil IsTokenLine
-all_lines_good (t ∷ tokens) names literals =
-    All-cons IsTokenLine t tokens (record { is_name = All-head IsName t.name (names_of tokens) names; is_literal = All-head IsQuotable t.bytes (literals_of tokens) literals }) (all_lines_good tokens (All-tail IsName t.name (names_of tokens) names) (All-tail IsQuotable t.bytes (literals_of tokens) literals))
+-- no element, or some
+pub empty_list : {X : Type 0} (xs : List X) (n : ℕ) → n ≡ length xs → true ≡ (n == 0) → xs ≡ []
+empty_list [] n size e = refl
+empty_list (x ∷ xs) n size e = let none : n ≡ 0 = grind (arith, nat_tests) in absurd (omega arith)
 
-part_of : (bytes : List ℕ) (sheet : Sheet) (h : IsFirstForm bytes sheet) → IsTokenPart bytes h.form.tokens (rule_line h.form.left (map (name_at (names_of h.form.tokens)) h.form.right))
-part_of bytes sheet h = record {
-  lines = all_lines_good h.form.tokens h.tokens.names h.tokens.literals;
-  spelled = h.spelled;
-}
+pub filled_list : {X : Type 0} (xs : List X) (n : ℕ) → n ≡ length xs → false ≡ (n == 0) → xs ≢ []
+filled_list [] n size e none = let some : n ≢ 0 = grind (arith, nat_tests) in some size
+filled_list (x ∷ xs) n size e none = let one : length (x ∷ xs) ≡ 0 = ap length none in absurd (omega arith)
 
-rule_of : (bytes : List ℕ) (sheet : Sheet) (h : IsFirstForm bytes sheet) → IsRuleLine (names_of h.form.tokens) (rule_line h.form.left (map (name_at (names_of h.form.tokens)) h.form.right)) h.form.left h.form.right
-rule_of bytes sheet h = record { is_name = h.left; is_new = h.left_is_new; symbols = h.right; spelled = refl }
+pub has_outline : (bytes : List ℕ) (o : OutlineParts) → length bytes ≤ 262144 → IsOutlineOf bytes o → IsPlain o → HasOutline bytes o
+has_outline bytes o size of plain = record { size = size; of = of; plain = plain }
 
-pub no_tokens : (bytes : List ℕ) → ((tokens : List TokenLine) (rest : List ℕ) → IsTokenPart bytes tokens rest → ⊥) → (sheet : Sheet) → IsFirstForm bytes sheet → ⊥
-no_tokens bytes none sheet h = none _ _ (part_of bytes sheet h)
+pub refused_reading : (bytes : List ℕ) (fault : SheetFault) → length bytes ≤ 262144 → IsOutlineFault bytes fault → IsReadFault bytes fault
+refused_reading bytes (BadByte line) size h = inr (IsFirstFault.bad_byte size h)
+refused_reading bytes (Syntax line) size h = inr (IsFirstFault.syntax size h)
+refused_reading bytes FormNotBuilt size h = inr (IsFirstFault.form_not_built size h)
+refused_reading bytes (BadPattern line) size h = absurd h
+refused_reading bytes (PatternMatchesEmpty line) size h = absurd h
+refused_reading bytes (Redeclared line) size h = absurd h
+refused_reading bytes (UnknownSymbol line) size h = absurd h
+refused_reading bytes NoRules size h = absurd h
+refused_reading bytes (PlaceOutOfRange line) size h = absurd h
+refused_reading bytes (PlaceTwice line) size h = absurd h
+refused_reading bytes (NotAToken line) size h = absurd h
+refused_reading bytes (Limit kind count) size h = absurd h
+refused_reading bytes NoMemory size h = inl refl
 
--- the rule stands behind any token part of the bytes
-rule_behind : (bytes : List ℕ) (sheet : Sheet) (h : IsFirstForm bytes sheet) (tokens : List TokenLine) (rest : List ℕ) → IsTokenPart bytes tokens rest → IsRuleLine (names_of tokens) rest h.form.left h.form.right
-rule_behind bytes sheet h tokens rest part =
-    let same = same_part bytes h.form.tokens tokens _ rest (part_of bytes sheet h) part in
-    subst (λ (ts : List TokenLine). IsRuleLine (names_of ts) rest h.form.left h.form.right) same.0 (subst (λ b. IsRuleLine (names_of h.form.tokens) b h.form.left h.form.right) same.1 (rule_of bytes sheet h))
+pub refused_outline : (bytes : List ℕ) (o : OutlineParts) (fault : SheetFault) → HasOutline bytes o → IsOutlineRefused o fault → IsReadFault bytes fault
+refused_outline bytes o NoMemory has IsOutlineRefused.no_memory = inl refl
+refused_outline bytes o NoRules has (IsOutlineRefused.no_rules none) = inr (IsFirstFault.no_rules has none)
+refused_outline bytes o fault has (IsOutlineRefused.on_line some first) = inr (IsFirstFault.on_line has some first)
 
-pub no_rule : (bytes : List ℕ) (tokens : List TokenLine) (rest : List ℕ) → IsTokenPart bytes tokens rest → (AreTokens tokens → (left right : List ℕ) → IsRuleLine (names_of tokens) rest left right → ⊥) → (sheet : Sheet) → IsFirstForm bytes sheet → ⊥
-no_rule bytes tokens rest part none sheet h =
-    let same = same_part bytes h.form.tokens tokens _ rest (part_of bytes sheet h) part in
-    let good : AreTokens tokens = subst AreTokens same.0 h.tokens in
-    none good h.form.left h.form.right (rule_behind bytes sheet h tokens rest part)
+pub refused_limit : (bytes : List ℕ) (o : OutlineParts) (fault : SheetFault) → HasOutline bytes o → IsFaultless o → IsLimitFault o fault → IsReadFault bytes fault
+refused_limit bytes o (BadByte line) has faultless h = absurd h
+refused_limit bytes o (Syntax line) has faultless h = absurd h
+refused_limit bytes o FormNotBuilt has faultless h = absurd h
+refused_limit bytes o (BadPattern line) has faultless h = absurd h
+refused_limit bytes o (PatternMatchesEmpty line) has faultless h = absurd h
+refused_limit bytes o (Redeclared line) has faultless h = absurd h
+refused_limit bytes o (UnknownSymbol line) has faultless h = absurd h
+refused_limit bytes o NoRules has faultless h = absurd h
+refused_limit bytes o (PlaceOutOfRange line) has faultless h = absurd h
+refused_limit bytes o (PlaceTwice line) has faultless h = absurd h
+refused_limit bytes o (NotAToken line) has faultless h = absurd h
+refused_limit bytes o (Limit kind count) has faultless h =
+    let (sheet, is) = sheet_some o has.plain in
+    let passed = h sheet is in
+    inr (subst (IsFirstFault bytes) (sym passed.is) (IsFirstFault.limit has faultless is passed.passed))
+refused_limit bytes o NoMemory has faultless h = inl refl
 
-pub form_made : (bytes : List ℕ) (sheet : Sheet) (tokens : List TokenLine) (rest left : List ℕ) (right : List ℕ) → length bytes ≤ 262144 → IsTokenPart bytes tokens rest → AreTokens tokens → IsRuleLine (names_of tokens) rest left right → sheet ≡ sheet_of (record { tokens = tokens; left = left; right = right }) → IsFirstForm bytes sheet
-form_made bytes sheet tokens rest left right size part good rule made = record {
-  form = record { tokens = tokens; left = left; right = right };
-  size = size;
-  spelled = part.spelled ∙ ap (λ l. flat_map token_line tokens ++ (codes "%%\n" ++ l)) rule.spelled;
-  tokens = good;
-  left = rule.is_name;
-  left_is_new = rule.is_new;
-  right = rule.symbols;
-  says = made;
-}
-
--- bytes of the first form are read in one way
-pub one_sheet : (bytes : List ℕ) (one other : Sheet) → IsFirstForm bytes one → IsFirstForm bytes other → one ≡ other
-one_sheet bytes one other a b =
-    let part = part_of bytes one a in
-    let tokens : b.form.tokens ≡ a.form.tokens = (same_part bytes b.form.tokens a.form.tokens _ _ (part_of bytes other b) part).0 in
-    let rules = same_rule (names_of a.form.tokens) _ a.form.left b.form.left a.form.right b.form.right a.tokens.own_names a.tokens.names (rule_of bytes one a) (rule_behind bytes other b a.form.tokens _ part) in
-    let forms : ◌≡◌ {A = FirstForm} a.form b.form = λ i. record { tokens = (sym tokens) i; left = rules.0 i; right = rules.1 i } in
-    a.says ∙ ap sheet_of forms ∙ sym b.says
+pub small_literals : (bytes : List ℕ) (o : OutlineParts) → length bytes ≤ 262144 → IsOutlineOf bytes o → sum_by length (token_literals o) < 2 ^ 64
+small_literals bytes o size of = let within : sum_by length (token_literals o) ≤ length bytes = literals_within bytes o of in omega arith

@@ -12,67 +12,8 @@ use Rattle.sheet_data.specs.Sheet.{Sheet}
 use Rattle.sheet_data.specs.declared.parts.Decl.{Decl}
 use Rattle.sheet_theory.specs.Names.{quote, escaped, declared_names, token_names}
 use Rattle.sheet_theory.proofs.NameLemmas.{token_names-declared, token_names-literal, token_names-end, token_names-bad_byte}
-use Rattle.sheet_reader.specs.FirstForm.{AreTokens, names_of, literals_of, literal_bytes, declared_literal}
-use Rattle.sheet_reader.specs.Spelling.{IsQuotable, is_quotable_byte}
 use Rattle.sheet_reader.specs.WellFormed.{IsLiteralDecl, name_of, bytes_of, literals_by_token, IsWellFormed}
-use Rattle.sheet_reader.specs.declared.token_line.TokenLine.{TokenLine}
 use Rattle.sheet_reader.proofs.RankLemmas.{all_names_declared}
-
-abbrev IsLiteralByte : ℕ → Type 0
-IsLiteralByte b = (b < 256) × (b ≢ 10)
-
--- what may stand between quotes is a literal
-and_left : (a b : Bool) → IsTrue (a && b) → IsTrue a
-and_left true b h = refl
-and_left false b h = absurd (false≢true h)
-
-and_right : (a b : Bool) → IsTrue (a && b) → IsTrue b
-and_right true b h = h
-and_right false b h = absurd (false≢true h)
-
-quotable_byte : (b : ℕ) → IsTrue (is_quotable_byte b) → IsLiteralByte b
-quotable_byte b h =
-    let range : IsTrue (nat_le 32 b && nat_le b 126) = and_left (nat_le 32 b && nat_le b 126) (not ((b == 39) || (b == 92))) h in
-    let low : nat_le 32 b ≡ true = and_left (nat_le 32 b) (nat_le b 126) range in
-    let high : nat_le b 126 ≡ true = and_right (nat_le 32 b) (nat_le b 126) range in
-    let from : 32 ≤ b = grind (arith, nat_tests) in
-    let to : b ≤ 126 = grind (arith, nat_tests) in
-    (omega arith, λ e. omega arith)
-
-quotable_literal : (bytes : List ℕ) → IsQuotable bytes → IsLiteral bytes
-quotable_literal bytes h = record {
-  some = λ e. let none : length bytes ≡ 0 = ap length e in omega (arith, h.0);
-  each = All-weaker (λ b. IsTrue (is_quotable_byte b)) IsLiteralByte quotable_byte bytes h.1;
-}
-
--- the parts of a sheet of the first form
-names_made : (tokens : List TokenLine) → declared_names (map declared_literal tokens) ≡ names_of tokens
-names_made [] = refl
-names_made (t ∷ tokens) = ap (λ l. t.name ∷ l) (names_made tokens)
-
-bytes_made : (tokens : List TokenLine) → map bytes_of (map declared_literal tokens) ≡ literals_of tokens
-bytes_made [] = refl
-bytes_made (t ∷ tokens) = ap (λ l. t.bytes ∷ l) (bytes_made tokens)
-
-decls_made : (tokens : List TokenLine) → All IsLiteralDecl (map declared_literal tokens)
-decls_made [] = All-nil IsLiteralDecl
-decls_made (t ∷ tokens) = All-cons IsLiteralDecl (declared_literal t) (map declared_literal tokens) tt (decls_made tokens)
-
-lengths_made : (tokens : List TokenLine) → sum_by length (literals_of tokens) ≡ literal_bytes tokens
-lengths_made [] = refl
-lengths_made (t ∷ tokens) =
-    sum_by-cons length t.bytes (literals_of tokens) ∙ ap (λ n. length t.bytes + n) (lengths_made tokens) ∙ sym (sum_by-cons (λ (u : TokenLine). length u.bytes) t tokens)
-
-pub well_formed_of : (sheet : Sheet) (tokens : List TokenLine) → AreTokens tokens → sheet.decls ≡ map declared_literal tokens → sheet.literals ≡ [] → sheet.grammar.tokens ≡ length tokens → IsWellFormed sheet
-well_formed_of sheet tokens good decls literals count =
-    let all : literals_by_token sheet ≡ literals_of tokens = ap (λ ds. map bytes_of ds ++ sheet.literals) decls ∙ ap (λ l. map bytes_of (map declared_literal tokens) ++ l) literals ∙ append-nil (map bytes_of (map declared_literal tokens)) ∙ bytes_made tokens in
-    record {
-      tokens = omega (arith, count, ap (λ ds. length (declared_names ds)) decls, ap length (names_made tokens), length-map tokens (λ (t : TokenLine). t.name), ap length literals);
-      decls = subst (All IsLiteralDecl) (sym decls) (decls_made tokens);
-      literals = subst (All IsLiteral) (sym all) (All-weaker IsQuotable IsLiteral quotable_literal (literals_of tokens) good.literals);
-      count = omega (arith, ap length all, length-map tokens (λ (t : TokenLine). t.bytes), good.count);
-      bytes = subst (λ l. sum_by length l ≤ 5000) (sym all) (subst (λ n. n ≤ 5000) (sym (lengths_made tokens)) good.bytes);
-    }
 
 -- the printed names
 declared_count : (sheet : Sheet) → IsWellFormed sheet → length (declared_names sheet.decls) ≡ length sheet.decls

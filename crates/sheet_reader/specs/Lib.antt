@@ -1,8 +1,6 @@
-pub mod FirstForm
 pub mod Parts
-pub mod Spelling
 pub mod WellFormed
-pub mod WordIndex
 pub mod Ranking
-pub mod Reading
-pub mod Laws
+pub mod RuleTexts
+pub mod Faults
+pub mod Printing

@@ -8,7 +8,7 @@ parts_of s = record {
   decls = s.decls.items;
   literals = s.literals.items;
   names = s.names.items;
-  grammar = record { tokens = s.tokens; names = s.name_count; rules = s.rules.items; start = s.start };
+  grammar = s.grammar;
   templates = map (λ t. t.items) s.templates.items;
   declares = map (λ t. t.items) s.declares.items;
 }

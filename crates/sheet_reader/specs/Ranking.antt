@@ -23,3 +23,4 @@ pub record IsScannable (patterns : List Pattern) : Type 0 where
 pub record RanksLiterals (order : ScanOrder) (literals : List (List ℕ)) : Type 0 where
   pub patterns : order.patterns.items ≡ map literal_pattern literals
   pub means : order.means.items ≡ map Token (range_with_len 0 (length literals))
+  pub each : All IsLiteral literals

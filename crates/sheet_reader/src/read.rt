@@ -1,43 +1,53 @@
-ghost use Rattle.std.specs.Prelude.{◌≡◌, ℕ, List, All, IfOk};
-ghost use Rattle.sheet_data.specs.Sheet.{Sheet as SheetParts};
-ghost use Rattle.sheet_reader.specs.FirstForm.{AreTokens, names_of, IsFirstForm};
-ghost use Rattle.sheet_reader.specs.Reading.{IsTokenLine, IsRuleLine};
+//! Reads a sheet.
+ghost use Rattle.std.specs.Prelude.{IfOk, IfErr, MatchResult};
+ghost use Rattle.outline_theory.specs.Reading.{IsFaultless, Reads};
+ghost use Rattle.sheet_reader.specs.Faults.{IsReadFault, IsOutlineRefused};
 
-use crate::fault::SheetFault;
-use crate::rule_line::{RuleLine, read_rule};
 use crate::sheet::Sheet;
-use crate::token_checks::index_tokens;
-use crate::token_line::{TokenLine, TokenPart, read_tokens};
-use lr_base::SHEET_BYTES;
+use lr_base::{NoMemory, SHEET_BYTES};
+use outline_checks::first_line_fault;
+use outline_data::{LimitKind, Outline, SheetFault};
+use outline_numbers::number_outline;
+use outline_reader::read_outline;
 use std::alloc::Global;
 
-/// The sheet that these bytes say. Sheets of the first form alone are read; any other bytes are refused as
-/// `FormNotBuilt`.
-pub fn read_sheet(alloc: Global, bytes: &[u8]) -> Result<Sheet, SheetFault>
-    ensures read { IfOk result (λ sheet. IsFirstForm bytes.now sheet) }
-    ensures form_not_built { result ≡ Err SheetFault.FormNotBuilt → (sheet : SheetParts) → ¬ (IsFirstForm bytes.now sheet) }
+/// The first fault of an outline, but for limits: it has no rule, or a fault on a line.
+fn check_outline(alloc: Global, outline: &Outline) -> Result<(), SheetFault>
+    ensures { MatchResult result (λ _. IsFaultless outline.now) (IsOutlineRefused outline.now) }
 {
-    if SHEET_BYTES < bytes.len() {
-        return Err(SheetFault::FormNotBuilt);
+    if outline.groups.is_empty() {
+        return Err(SheetFault::NoRules);
     }
-    let TokenPart { tokens, rest } = read_tokens(alloc, bytes)?;
-    let rule = read_rule_of(alloc, &tokens, rest)?;
-    let sheet = Sheet::first_form(alloc, tokens, rule.left, rule.right)?;
-    Ok(sheet)
+    match first_line_fault(alloc, outline) {
+        Ok(Some(fault)) => Err(fault),
+        Ok(None) => Ok(()),
+        Err(NoMemory) => Err(SheetFault::NoMemory),
+    }
 }
 
-/// The rule over these tokens, which are checked first.
-fn read_rule_of<'a>(
-    alloc: Global,
-    tokens: &[TokenLine],
-    bytes: &'a [u8],
-) -> Result<RuleLine<'a>, SheetFault>
-    requires { All IsTokenLine tokens.now }
-    ensures tokens { IfOk result (λ _. AreTokens tokens.now) }
-    ensures rule { IfOk result (λ rule. IsRuleLine (names_of tokens.now) bytes.now rule.left.now rule.right.items) }
-    ensures none { result ≡ Err SheetFault.FormNotBuilt → AreTokens tokens.now → (left right : List ℕ) → ¬ (IsRuleLine (names_of tokens.now) bytes.now left right) }
+/// The sheet that these bytes say, or their first fault: the limit on the bytes comes first; then the first lexical or
+/// syntactic fault in the order of the bytes; then the want of rules; then, of the faults on lines, the least line's
+/// with the least number; and then the limits in their order. Patterns are not read yet: where one stands and a sheet
+/// goes on with it, the answer is `FormNotBuilt`.
+pub fn read_sheet(alloc: Global, bytes: &[u8]) -> Result<Sheet, SheetFault>
+    ensures read { IfOk result (λ sheet. Reads bytes.now sheet) }
+    ensures fault { IfErr result (λ fault. IsReadFault bytes.now fault) }
 {
-    let names = index_tokens(alloc, tokens)?;
-    let rule = read_rule(alloc, &names, bytes)?;
-    Ok(rule)
+    if SHEET_BYTES < bytes.len() {
+        return Err(SheetFault::Limit(LimitKind::SheetBytes, SHEET_BYTES as u64 + 1));
+    }
+    let outline = match read_outline(alloc, bytes) {
+        Ok(outline) => outline,
+        Err(fault) => return Err(fault),
+    };
+    match check_outline(alloc, &outline) {
+        Ok(()) => {}
+        Err(fault) => return Err(fault),
+    }
+    let numbered = match number_outline(alloc, &outline) {
+        Ok(numbered) => numbered,
+        Err(fault) => return Err(fault),
+    };
+    let sheet = Sheet::of_outline(alloc, outline, numbered)?;
+    Ok(sheet)
 }

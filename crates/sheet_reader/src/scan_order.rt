@@ -1,7 +1,6 @@
 //! The order in which a sheet's patterns are scanned.
 ghost use Rattle.std.specs.Prelude.{◌≡◌, ℕ, ◌+◌, ◌<◌, ◌≤◌, List, [], ◌∷◌, ◌++◌, length, map, All, IfOk, OnOk};
-ghost use Rattle.pattern_data.specs.Language.{IsLiteral};
-ghost use Rattle.sheet_reader.specs.WellFormed.{IsLiteralDecl, bytes_of};
+ghost use Rattle.sheet_reader.specs.WellFormed.{IsLiteralDecl, IsLiteralText, bytes_of};
 ghost use Rattle.sheet_reader.specs.Ranking.{RanksLiterals};
 
 use lr_base::{NoMemory, TokenId};
@@ -28,7 +27,7 @@ impl ScanOrder {
 
     /// Ranks one more literal as the next token. After an error the order isn't used.
     fn push_literal(&mut self, alloc: Global, bytes: &[u8]) -> Result<(), NoMemory>
-        requires literal { IsLiteral bytes.now }
+        requires literal { IsLiteralText bytes.now }
         requires few { length self.old.means.items < 250 }
         ensures size { OnOk result (length self.new.means.items ≡ length self.old.means.items + 1) }
         ensures ranks { OnOk result ((literals : List (List ℕ)) → RanksLiterals self.old literals → RanksLiterals self.new (literals ++ bytes.now ∷ [])) }
@@ -48,7 +47,7 @@ impl ScanOrder {
 /// Ranks the declared literals.
 pub fn rank_declared(alloc: Global, decls: &[Decl]) -> Result<ScanOrder, NoMemory>
     requires literals { All IsLiteralDecl decls.now }
-    requires each { All IsLiteral (map bytes_of decls.now) }
+    requires each { All IsLiteralText (map bytes_of decls.now) }
     requires few { length decls.now ≤ 250 }
     ensures { IfOk result (λ order. RanksLiterals order (map bytes_of decls.now)) }
 {
@@ -76,7 +75,7 @@ pub fn rank_unnamed(
     ranked: ScanOrder,
     literals: &[Bytes],
 ) -> Result<ScanOrder, NoMemory>
-    requires each { All IsLiteral literals.now }
+    requires each { All IsLiteralText literals.now }
     requires few { length ranked.means.items + length literals.now ≤ 250 }
     ensures { IfOk result (λ order. (before : List (List ℕ)) → RanksLiterals ranked before → RanksLiterals order (before ++ literals.now)) }
 {

@@ -1,13 +1,11 @@
-ghost use Rattle.std.specs.Prelude.{◌≡◌, ◌+◌, ◌^◌, ◌<◌, ◌≤◌, slice_get, length, map, IfOk};
-ghost use Rattle.std.specs.List.{range_with_len};
-ghost use Rattle.grammar_data.specs.declared.rule.Sym.TheVariants.{Token};
-ghost use Rattle.sheet_data.specs.declared.parts.Part.TheVariants.{Fold};
-ghost use Rattle.sheet_reader.specs.FirstForm.{declared_literal};
+ghost use Rattle.std.specs.Prelude.{◌≡◌, ◌+◌, ◌<◌, ◌≤◌, slice_get, Some, length, map, All, IfOk};
 
+use crate::parts::{RuleTexts, decls_of, rule_texts};
 use crate::scan_order::{ScanOrder, rank_declared, rank_unnamed};
-use crate::token_line::TokenLine;
 use crate::token_text::{declared_name, quoted};
-use lr_base::{NameId, NoMemory, Rule, Sym, TokenId};
+use lr_base::{Grammar, NameId, NoMemory, RuleId, TokenId};
+use outline_data::Outline;
+use outline_numbers::Numbered;
 use sheet_data::{Bytes, Decl, Part};
 use std::alloc::Global;
 use std::marker::Model;
@@ -18,10 +16,7 @@ pub struct Sheet {
     decls: Vec<Decl>,
     literals: Vec<Bytes>,
     names: Vec<Bytes>,
-    tokens: u32,
-    name_count: u32,
-    rules: Vec<Rule>,
-    start: u32,
+    grammar: Grammar,
     templates: Vec<Vec<Part>>,
     declares: Vec<Vec<u32>>,
 }
@@ -46,38 +41,102 @@ impl Model for Sheet {
 impl Sheet {
     ghost use Rattle.sheet_theory.specs.Names.{token_names};
     ghost use Rattle.sheet_theory.specs.ScanOrder.{Ranked, scan_order};
-    ghost use Rattle.sheet_reader.specs.FirstForm.{AreTokens, AreSymbols, names_of, sheet_of};
+    ghost use Rattle.outline_theory.specs.Outlines.{IsPlain};
+    ghost use Rattle.outline_theory.specs.Reading.{IsFaultless};
+    ghost use Rattle.outline_theory.specs.Numbering.{IsSheetOf};
+    ghost use Rattle.outline_numbers.specs.Numbered.{IsNumbered, IsOrdinary};
+    ghost use Rattle.sheet_reader.specs.WellFormed.{IsLiteralDecl};
     ghost use Rattle.sheet_reader.specs.Ranking.{IsScannable, token_count};
 
-    /// The sheet of the first form that has these tokens, and this rule.
-    pub(crate) fn first_form(
+    /// The sheet of an outline with its numbers.
+    pub(crate) fn of_outline(
         alloc: Global,
-        tokens: Vec<TokenLine>,
-        left: &[u8],
-        right: Vec<TokenId>,
+        outline: Outline,
+        numbered: Numbered,
     ) -> Result<Sheet, NoMemory>
-        requires tokens { AreTokens tokens.items }
-        requires symbols { AreSymbols (names_of tokens.items) right.items }
-        ensures { IfOk result (λ sheet. sheet ≡ sheet_of (record { tokens = tokens.items; left = left.now; right = right.items })) }
+        requires faultless { IsFaultless outline }
+        requires plain { IsPlain outline }
+        requires numbers { IsNumbered outline numbered }
+        requires ordinary { IsOrdinary outline }
+        ensures { IfOk result (λ sheet. IsSheetOf outline sheet) }
     {
-        let token_count = tokens.len() as u32;
-        let template = fold_parts(alloc, right.len() as u32)?;
-        let rule = Rule {
-            left: NameId(0),
-            right: token_symbols(alloc, right)?,
-        };
-        let left = Bytes::from_vec(Vec::from_slice(alloc, left)?);
+        let Outline {
+            declarations,
+            groups,
+            ..
+        } = outline;
+        let Numbered {
+            literals,
+            names,
+            grammar,
+        } = numbered;
+        let RuleTexts {
+            templates,
+            declares,
+        } = rule_texts(alloc, groups)?;
         Ok(Sheet {
-            decls: literal_decls(alloc, tokens)?,
-            literals: Vec::new(alloc),
-            names: vec![in alloc; left]?,
-            tokens: token_count,
-            name_count: 1,
-            rules: vec![in alloc; rule]?,
-            start: 0,
-            templates: vec![in alloc; template]?,
-            declares: vec![in alloc; Vec::new(alloc)]?,
+            decls: decls_of(alloc, declarations)?,
+            literals,
+            names,
+            grammar,
+            templates,
+            declares,
         })
+    }
+
+    /// The declarations, in order.
+    pub(crate) fn decls(&self) -> &[Decl]
+        ensures decls { result.now ≡ self.now.decls }
+        ensures literals { All IsLiteralDecl result.now }
+    {
+        &self.decls
+    }
+
+    /// How many rules there are.
+    pub(crate) fn rule_count(&self) -> u32
+        ensures rules { result ≡ length self.now.grammar.rules }
+        ensures templates { length self.now.templates ≡ length self.now.grammar.rules }
+        ensures declares { length self.now.declares ≡ length self.now.grammar.rules }
+    {
+        self.grammar.rule_count()
+    }
+
+    /// The names of the grammar, by number.
+    pub(crate) fn names(&self) -> &[Bytes]
+        ensures { result.now ≡ self.now.names }
+    {
+        &self.names
+    }
+
+    /// The grammar.
+    pub fn grammar(&self) -> &Grammar
+        ensures { result.now ≡ self.now.grammar }
+    {
+        &self.grammar
+    }
+
+    /// The template of a rule.
+    pub fn template(&self, rule: RuleId) -> &[Part]
+        requires { rule < length self.now.grammar.rules }
+        ensures { slice_get self.now.templates rule ≡ Some result.now }
+    {
+        &self.templates[rule.0 as usize]
+    }
+
+    /// The places that a rule declares, counted from 1, as written.
+    pub fn declares(&self, rule: RuleId) -> &[u32]
+        requires { rule < length self.now.grammar.rules }
+        ensures { slice_get self.now.declares rule ≡ Some result.now }
+    {
+        &self.declares[rule.0 as usize]
+    }
+
+    /// The text of a name of the grammar.
+    pub fn name(&self, name: NameId) -> &[u8]
+        requires { name < self.now.grammar.names }
+        ensures { slice_get self.now.names name ≡ Some result.now }
+    {
+        self.names[name.0 as usize].as_slice()
     }
 
     /// The printed name of a token: its declared name, or its literal between quotes; the two numbers behind the
@@ -109,7 +168,7 @@ impl Sheet {
     pub fn token_texts(&self) -> Result<Vec<Bytes>, NoMemory>
         ensures { IfOk result (λ texts. texts.items ≡ token_names self.now) }
     {
-        let total = self.tokens + 2;
+        let total = self.grammar.tokens() + 2;
         let mut texts = Vec::new(*self.decls.allocator());
         for number in 0..total {
             let text = self.token_text(TokenId(number))?;
@@ -130,33 +189,4 @@ impl Sheet {
         let declared = rank_declared(alloc, self.decls.as_slice())?;
         rank_unnamed(alloc, declared, self.literals.as_slice())
     }
-}
-
-fn literal_decls(alloc: Global, tokens: Vec<TokenLine>) -> Result<Vec<Decl>, NoMemory>
-    ensures { IfOk result (λ decls. decls.items ≡ map declared_literal tokens.items) }
-{
-    let decls = tokens
-        .into_iter()
-        .map(|token| Decl::Literal {
-            name: token.name,
-            bytes: token.bytes,
-        })
-        .collect(alloc)?;
-    Ok(decls)
-}
-
-fn token_symbols(alloc: Global, tokens: Vec<TokenId>) -> Result<Vec<Sym>, NoMemory>
-    ensures { IfOk result (λ symbols. symbols.items ≡ map Token tokens.items) }
-{
-    let symbols = tokens.into_iter().map(Sym::Token).collect(alloc)?;
-    Ok(symbols)
-}
-
-/// The template that gives what each of so many parts gives, in turn.
-fn fold_parts(alloc: Global, count: u32) -> Result<Vec<Part>, NoMemory>
-    requires { count < 2 ^ 31 }
-    ensures { IfOk result (λ parts. parts.items ≡ map Fold (range_with_len 1 count)) }
-{
-    let parts = (1..count + 1).map(Part::Fold).collect(alloc)?;
-    Ok(parts)
 }

@@ -24,21 +24,31 @@ pub fn quoted(alloc: Global, bytes: &[u8]) -> Result<Vec<u8>, NoMemory>
     ensures { IfOk result (λ text. text.items ≡ escaped quote bytes.now) }
 {
     let mut text = Vec::new(alloc);
-    text.push(b'\'')?;
-    for byte in bytes {
-        push_escaped(&mut text, *byte)?;
-    }
-    text.push(b'\'')?;
+    push_escaped(&mut text, b'\'', bytes)?;
     Ok(text)
 }
 
-fn push_escaped(text: &mut Vec<u8>, byte: u8) -> Result<(), NoMemory>
-    ensures { OnOk result (text.new.items ≡ text.old.items ++ escaped_byte quote byte) }
+/// Puts bytes between two of the closing byte, with a backslash before each closing byte and backslash.
+pub fn push_escaped(text: &mut Vec<u8>, closing: u8, bytes: &[u8]) -> Result<(), NoMemory>
+    ensures { OnOk result (text.new.items ≡ text.old.items ++ escaped closing bytes.now) }
 {
-    match byte {
-        b'\'' | b'\\' => text.extend_from_slice(&[b'\\', byte])?,
-        b' '..=b'~' => text.push(byte)?,
-        _ => text.extend_from_slice(&[b'\\', b'x', digit(byte / 16), digit(byte % 16)])?,
+    text.push(closing)?;
+    for byte in bytes {
+        push_escaped_byte(text, closing, *byte)?;
+    }
+    text.push(closing)?;
+    Ok(())
+}
+
+fn push_escaped_byte(text: &mut Vec<u8>, closing: u8, byte: u8) -> Result<(), NoMemory>
+    ensures { OnOk result (text.new.items ≡ text.old.items ++ escaped_byte closing byte) }
+{
+    if byte == closing || byte == b'\\' {
+        text.extend_from_slice(&[b'\\', byte])?;
+    } else if matches!(byte, b' '..=b'~') {
+        text.push(byte)?;
+    } else {
+        text.extend_from_slice(&[b'\\', b'x', digit(byte / 16), digit(byte % 16)])?;
     }
     Ok(())
 }

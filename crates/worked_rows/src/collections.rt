@@ -10,16 +10,17 @@ use lr_base::{Grammar, StateId};
 use std::alloc::Global;
 use std::test::Fail;
 
-/// What is found of a grammar.
+/// What may be found of a grammar.
 #[derive(Debug, Drop)]
-enum Collected {
+pub enum Collected {
     States(Collection),
     TooManyStates,
     /// There is no collection for want of memory, or since a name is useless.
     Nothing,
 }
 
-fn try_collect(alloc: Global, grammar: &Grammar) -> Collected {
+/// What is found of a grammar.
+pub fn try_collect(alloc: Global, grammar: &Grammar) -> Collected {
     match analyse(alloc, grammar) {
         Ok(firsts) => match collect(alloc, grammar, &firsts) {
             Ok(collection) => Collected::States(collection),

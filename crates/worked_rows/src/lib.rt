@@ -4,9 +4,13 @@
 #[cfg(test)]
 mod adapters;
 #[cfg(test)]
+mod checks;
+#[cfg(test)]
 mod collections;
 #[cfg(test)]
 mod grammar;
+#[cfg(test)]
+mod language;
 #[cfg(test)]
 mod lexemes;
 #[cfg(test)]
@@ -15,6 +19,8 @@ mod limits;
 mod memory;
 #[cfg(test)]
 mod names;
+#[cfg(test)]
+mod patterns;
 #[cfg(test)]
 mod program;
 #[cfg(test)]

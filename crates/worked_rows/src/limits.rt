@@ -71,7 +71,7 @@ static LIMITS: [LimitRow; 5] = [
         lines: 0,
         front: b"",
         back: b"",
-        err: b"sheet form not built\n",
+        err: b"sheet fault 11: too large: sheet bytes 262145\n",
     },
     LimitRow {
         name: "a long line of 136 tokens and 368 bad bytes",
@@ -166,7 +166,7 @@ static COUNTS: [CountRow; 4] = [
         words: "tokens x t",
         status: Status::Sheet,
         out: 0,
-        err: 21,
+        err: 30,
     },
     CountRow {
         words: "tokens",

@@ -43,7 +43,7 @@ const PLAIN: Row = Row {
 const REFUSED: Row = Row {
     status: 3,
     out: b"",
-    err: b"sheet form not built\n",
+    err: b"",
     ..PLAIN
 };
 
@@ -119,6 +119,7 @@ static INPUTS: [Row; 8] = [
         name: "a refused sheet and a missing text",
         words: "tokens s x",
         sheet: b"%%\n",
+        err: b"sheet fault 7: no rules\n",
         ..REFUSED
     },
 ];
@@ -192,100 +193,83 @@ static TEXTS: [Row; 11] = [
     },
 ];
 
-static SHEETS: [Row; 19] = [
+static SHEETS: [Row; 13] = [
     Row {
         name: "a pattern, alternatives and templates",
         sheet: b"%token ID /[a-z]+/\n%%\ns : 'if' { \"K\" } | ID { \"I\" $1 } ;\n",
+        err: b"sheet form not built\n",
         ..REFUSED
     },
     Row {
         name: "no bytes",
         sheet: b"",
+        err: b"sheet fault 2: line 1: syntax\n",
         ..REFUSED
     },
     Row {
         name: "no line of two percent signs",
         sheet: b"%token L 'le'\ns : L ;\n",
+        err: b"sheet fault 2: line 2: syntax\n",
         ..REFUSED
     },
     Row {
         name: "no rule",
         sheet: b"%token L 'le'\n%%\n",
-        ..REFUSED
-    },
-    Row {
-        name: "no last line feed",
-        sheet: b"%token L 'le'\n%%\ns : L ;",
-        ..REFUSED
-    },
-    Row {
-        name: "a line behind the rule",
-        sheet: b"%token L 'le'\n%%\ns : L ;\n\n",
-        ..REFUSED
-    },
-    Row {
-        name: "two rules",
-        sheet: b"%token L 'le'\n%%\ns : L ;\nt : L ;\n",
-        ..REFUSED
-    },
-    Row {
-        name: "carriage returns",
-        sheet: b"%token L 'le'\r\n%%\r\ns : L ;\r\n",
+        err: b"sheet fault 7: no rules\n",
         ..REFUSED
     },
     Row {
         name: "one name of two tokens",
         sheet: b"%token L 'le'\n%token L 'let'\n%%\ns : L ;\n",
+        err: b"sheet fault 5: line 2: redeclared\n",
         ..REFUSED
     },
     Row {
         name: "one literal of two tokens",
         sheet: b"%token L 'le'\n%token M 'le'\n%%\ns : L ;\n",
+        err: b"sheet fault 5: line 2: redeclared\n",
         ..REFUSED
     },
     Row {
         name: "a literal of no bytes",
         sheet: b"%token L ''\n%%\ns : L ;\n",
+        err: b"sheet fault 4: line 1: pattern matches the empty text\n",
         ..REFUSED
     },
     Row {
         name: "a backslash in a literal",
         sheet: b"%token L 'l\\e'\n%%\ns : L ;\n",
+        err: b"sheet fault 2: line 1: syntax\n",
         ..REFUSED
     },
     Row {
         name: "a byte above 0x7E in a literal",
         sheet: b"%token L 'l\x7f'\n%%\ns : L ;\n",
+        err: b"sheet fault 1: line 1: bad byte\n",
         ..REFUSED
     },
     Row {
         name: "a name that begins with a digit",
         sheet: b"%token 1L 'le'\n%%\ns : 1L ;\n",
+        err: b"sheet fault 2: line 1: syntax\n",
         ..REFUSED
     },
     Row {
         name: "a name that no line declares",
         sheet: b"%token L 'le'\n%%\ns : L M ;\n",
+        err: b"sheet fault 6: line 3: unknown symbol\n",
         ..REFUSED
     },
     Row {
         name: "a token as the left side",
         sheet: b"%token L 'le'\n%%\nL : L ;\n",
-        ..REFUSED
-    },
-    Row {
-        name: "an empty right side",
-        sheet: b"%token L 'le'\n%%\ns : ;\n",
-        ..REFUSED
-    },
-    Row {
-        name: "two spaces",
-        sheet: b"%token  L 'le'\n%%\ns : L ;\n",
+        err: b"sheet fault 5: line 3: redeclared\n",
         ..REFUSED
     },
     Row {
         name: "21 names in the right side",
         sheet: b"%token L 'le'\n%%\ns : L L L L L L L L L L L L L L L L L L L L L ;\n",
+        err: b"sheet fault 11: too large: right side 21\n",
         ..REFUSED
     },
 ];

@@ -320,6 +320,6 @@ fn reads_a_sheet_and_names_its_tokens(rt: HostRuntime) -> Result<(), Fail> {
     assert!(rt; are_names(&texts), "all names");
     assert!(rt; gives_names(&sheet)?, "one name at a time");
     assert!(rt; is_order(&order), "the order of rank");
-    assert_eq!(rt; fault, Some(SheetFault::FormNotBuilt), "another form");
+    assert_eq!(rt; fault, Some(SheetFault::NoRules), "no rules");
     Ok(())
 }

@@ -7,7 +7,7 @@ use Rattle.lrpar_cli.proofs.call.list_tokens.Goals as goal
 pub returns-in-Err-clause-ending : goal.returns-in-Err-clause-ending
 returns-in-Err-clause-ending g c words form =
     ending_at_sheet _ _ words _ _ _ _ _ form c.in-Err.stop c.say_stop.result
-    (λ e. c.in-Err.ensures.refused (ap Err e))
+    (λ what e. c.in-Err.ensures.refused what (ap Err e))
     (λ e. c.in-Err.ensures.long (ap Err e))
     (λ e. c.in-Err.ensures.rose (ap Err e))
     (λ e. c.in-Err.ensures.unserved (ap Err e))
@@ -20,7 +20,7 @@ returns-in-Err-read_text-clause-ending g c words form =
     let read = c.in-Ok.ensures.accepted in
     ending_at_text _ _ words _ _ _ _ _ form read.0 c.in-Ok.sheet read.1 read.2 c.in-Err-read_text.stop c.say_stop-in-Err-read_text.result
     (λ e. rw c.in-Ok.ensures.stands at (c.in-Err-read_text.ensures.long (ap Err e)))
-    (λ e. c.in-Err-read_text.ensures.sheet (ap Err e))
+    (λ what e. c.in-Err-read_text.ensures.sheet what (ap Err e))
     (λ e. rose_before _ _ _ c.in-Ok.ensures.later (c.in-Err-read_text.ensures.rose (ap Err e)))
     (λ e. rw c.in-Ok.ensures.served at (c.in-Err-read_text.ensures.unserved (ap Err e)))
     (Appends-nil _)

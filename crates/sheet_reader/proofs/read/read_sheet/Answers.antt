@@ -1,25 +1,21 @@
-use Rattle.std.proofs.Common.{List, ◌∙◌, sym, ap, subst, Err}
-use Rattle.std.proofs.lemmas.Result.{err_from_is_err_and}
-use Rattle.sheet_reader.specs.FirstForm.{AreTokens, names_of}
-use Rattle.sheet_reader.specs.Reading.{IsTokenPart, IsRuleLine}
-use Rattle.sheet_reader.specs.declared.token_line.TokenLine.{TokenLine}
-use Rattle.sheet_reader.proofs.ReadLemmas.{no_tokens, no_rule, form_made}
-use Rattle.sheet_reader.proofs.RuleLines.{same_err}
+use Rattle.std.proofs.Common.{◌≡◌, inr}
+use Rattle.outline_theory.specs.Reading.{IsFirstFault}
+use Rattle.sheet_reader.proofs.ReadLemmas.{has_outline, refused_reading, refused_outline, refused_limit, small_literals}
 use Rattle.sheet_reader.proofs.read.read_sheet.Goals as goal
 
-pub returns-in_err-tokens-clause-form_not_built : goal.returns-in_err-tokens-clause-form_not_built
-returns-in_err-tokens-clause-form_not_built c = λ refused.
-    let p = err_from_is_err_and c.from_residual.result c.from_residual.ensures.1 in
-    no_tokens c.args.bytes.now (c.in_err-tokens.ensures.none (ap Err (sym p.2 ∙ same_err p.0 _ (sym p.1 ∙ refused))))
+pub returns-then-bytes-gt-SHEET_BYTES-clause-fault : goal.returns-then-bytes-gt-SHEET_BYTES-clause-fault
+returns-then-bytes-gt-SHEET_BYTES-clause-fault c = inr (IsFirstFault.too_long c.if-bytes-gt-SHEET_BYTES.true)
 
-pub returns-in_err-rule-clause-form_not_built : goal.returns-in_err-rule-clause-form_not_built
-returns-in_err-rule-clause-form_not_built c = λ refused.
-    let p = err_from_is_err_and c.from_residual-in_err-rule.result c.from_residual-in_err-rule.ensures.1 in
-    let part : IsTokenPart c.args.bytes.now c.deref.result.now c.in_ok-tokens.field-0.rest.now = subst (λ (ts : List TokenLine). IsTokenPart c.args.bytes.now ts c.in_ok-tokens.field-0.rest.now) (sym c.deref.ensures.value) c.in_ok-tokens.ensures.read in
-    no_rule c.args.bytes.now c.deref.result.now c.in_ok-tokens.field-0.rest.now part (c.in_err-rule.ensures.none (ap Err (sym p.2 ∙ same_err p.0 _ (sym p.1 ∙ refused))))
+pub returns-in-Err-clause-fault : goal.returns-in-Err-clause-fault
+returns-in-Err-clause-fault c = refused_reading c.args.bytes.now c.in-Err.fault c.if-bytes-gt-SHEET_BYTES.false c.in-Err.ensures.fault
 
-pub returns-clause-read : goal.returns-clause-read
-returns-clause-read c =
-    let good : AreTokens c.in_ok-tokens.field-0.tokens.items = subst AreTokens c.deref.ensures.value c.in_ok-rule.ensures.tokens in
-    let rule = subst (λ (ts : List TokenLine). IsRuleLine (names_of ts) c.in_ok-tokens.field-0.rest.now c.in_ok-rule.rule.left.now c.in_ok-rule.rule.right.items) c.deref.ensures.value c.in_ok-rule.ensures.rule in
-    form_made c.args.bytes.now c.in_ok-sheet.sheet c.in_ok-tokens.field-0.tokens.items c.in_ok-tokens.field-0.rest.now c.in_ok-rule.rule.left.now c.in_ok-rule.rule.right.items c.if-bytes-gt-SHEET_BYTES.false c.in_ok-tokens.ensures.read good rule c.in_ok-sheet.ensures
+pub returns-in-Err-check_outline-clause-fault : goal.returns-in-Err-check_outline-clause-fault
+returns-in-Err-check_outline-clause-fault c =
+    refused_outline c.args.bytes.now c.in-Ok.outline c.in-Err-check_outline.fault (has_outline c.args.bytes.now c.in-Ok.outline c.if-bytes-gt-SHEET_BYTES.false c.in-Ok.ensures.outline c.in-Ok.ensures.plain) c.in-Err-check_outline.ensures
+
+pub number_outline-requires-clause-small : goal.number_outline-requires-clause-small
+number_outline-requires-clause-small c = small_literals c.args.bytes.now c.in-Ok.outline c.if-bytes-gt-SHEET_BYTES.false c.in-Ok.ensures.outline
+
+pub returns-in-Err-number_outline-clause-fault : goal.returns-in-Err-number_outline-clause-fault
+returns-in-Err-number_outline-clause-fault c =
+    refused_limit c.args.bytes.now c.in-Ok.outline c.in-Err-number_outline.fault (has_outline c.args.bytes.now c.in-Ok.outline c.if-bytes-gt-SHEET_BYTES.false c.in-Ok.ensures.outline c.in-Ok.ensures.plain) c.in-Ok-check_outline.ensures c.in-Err-number_outline.ensures.limits

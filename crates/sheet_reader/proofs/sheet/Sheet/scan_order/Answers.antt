@@ -1,8 +1,7 @@
 use Rattle.std.proofs.Common.{ap, sym, subst, ◌∙◌}
 use Rattle.std.specs.Prelude.{All, IfOk}
-use Rattle.pattern_data.specs.Language.{IsLiteral}
 use Rattle.sheet_data.specs.Sheet.{Sheet}
-use Rattle.sheet_reader.specs.WellFormed.{IsWellFormed, literals_by_token}
+use Rattle.sheet_reader.specs.WellFormed.{IsWellFormed, IsLiteralText, literals_by_token}
 use Rattle.sheet_reader.specs.Ranking.{RanksLiterals}
 use Rattle.sheet_reader.specs.Parts.{parts_of}
 use Rattle.sheet_reader.proofs.RankLemmas.{each_unnamed, few_unnamed, ranked_all, order_patterns, order_means, order_scannable, order_each, order_tokens}
@@ -17,7 +16,7 @@ all_ranked c =
 
 pub rank_unnamed-requires-clause-each : goal.rank_unnamed-requires-clause-each
 rank_unnamed-requires-clause-each c =
-    subst (All IsLiteral) (sym c.as_slice-2.ensures.value) (each_unnamed (parts_of c.self.inside) c.self.invariant)
+    subst (All IsLiteralText) (sym c.as_slice-2.ensures.value) (each_unnamed (parts_of c.self.inside) c.self.invariant)
 
 pub rank_unnamed-requires-clause-few : goal.rank_unnamed-requires-clause-few
 rank_unnamed-requires-clause-few c =

@@ -30,5 +30,5 @@ pub returns : goal.returns
 returns c =
     let P : Sheet → Type 0 = λ s. slice_get (token_names s) c.args.a ≡ Some c.in_ok-bad_byte.bad_byte.items in
     let behind : length c.self.inside.decls.items + length c.self.inside.literals.items < c.args.a = omega (arith, c.a.view_is, c.len-declared.ensures, c.self.inside.decls.ok, c.len.ensures, c.len-2.ensures, c.self.inside.literals.ok, c.if-number-declared.false) in
-    let within : c.args.a ≤ c.self.inside.tokens + 1 = omega (arith, c.requires, ap (λ (s : Sheet). s.grammar.tokens) c.self.view_is) in
+    let within : c.args.a ≤ c.self.inside.grammar.tokens + 1 = omega (arith, c.requires, ap (λ (s : Sheet). s.grammar.tokens) c.self.view_is) in
     subst P c.self.view_is (text_bad_byte (parts_of c.self.inside) c.self.invariant c.args.a _ behind within (c.in_ok-bad_byte.ensures.items ∙ c.as_slice-2.ensures))

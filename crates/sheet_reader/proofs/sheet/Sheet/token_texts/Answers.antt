@@ -5,7 +5,7 @@ use Rattle.sheet_reader.proofs.TextLemmas.{few_tokens, take_found, all_names}
 use Rattle.sheet_reader.proofs.sheet.Sheet.token_texts.Goals as goal
 
 pub overflow_add-total : goal.overflow_add-total
-overflow_add-total c = omega (arith, few_tokens (parts_of c.self.inside) c.self.invariant)
+overflow_add-total c = omega (arith, few_tokens (parts_of c.self.inside) c.self.invariant, c.tokens-total.ensures)
 
 pub loop-number-preserved : goal.loop-number-preserved
 loop-number-preserved c =
@@ -17,5 +17,5 @@ loop-number-preserved c =
 pub returns : goal.returns
 returns c =
     let total : c.loop-number.texts.items ≡ token_names (parts_of c.self.inside) =
-    rw (sym c.self.view_is) at (c.loop-number.invariant) ∙ all_names (parts_of c.self.inside) c.loop-number.number c.self.invariant c.loop-number-test.false in
+    rw (sym c.self.view_is) at (c.loop-number.invariant) ∙ all_names (parts_of c.self.inside) c.loop-number.number c.self.invariant (omega (arith, c.tokens-total.ensures, c.loop-number-test.false)) in
     total ∙ ap token_names c.self.view_is

@@ -1,5 +1,0 @@
-use Rattle.sheet_reader.proofs.ReadLemmas.{one_sheet}
-use Rattle.sheet_reader.proofs.laws.one_sheet_law.Goals as goal
-
-pub returns : goal.returns
-returns c = one_sheet
