@@ -6,7 +6,8 @@ import os
 import random
 import sys
 import tempfile
-import time
+
+from timed import timed
 
 WORDS = ['let', 'if', 'else', 'while', 'for', 'return', 'fn', 'struct', 'enum', 'match', 'use', 'mod', 'pub', 'impl', 'trait',
          'type', 'const', 'static', 'mut', 'ref']
@@ -31,17 +32,6 @@ def text(size):
     return ''.join(lines)
 
 
-def run(program, place, name):
-    """Answers the seconds and the peak memory in MiB of one run."""
-    command = 'exec %s tokens %s/sheet %s/%s >%s/list' % (program, place, place, name, place)
-    begun = time.time()
-    child = os.spawnv(os.P_NOWAIT, '/bin/sh', ['sh', '-c', command])
-    _, status, used = os.wait4(child, 0)
-    if status:
-        sys.exit('status %d' % status)
-    return time.time() - begun, used.ru_maxrss // 1024
-
-
 def main():
     if len(sys.argv) != 2:
         sys.exit(__doc__)
@@ -53,7 +43,7 @@ def main():
         for mib in (1, 2, 4, 8):
             with open('%s/text%d' % (place, mib), 'w') as file:
                 file.write(text(mib << 20))
-            runs = [run(program, place, 'text%d' % mib) for _ in range(3)]
+            runs = [timed('%s tokens %s/sheet %s/text%d >%s/list' % (program, place, place, mib, place)) for _ in range(3)]
             with open(place + '/list') as file:
                 tokens = sum(1 for _ in file) - 1
             print('| %d MiB | %d | %d MiB | %.2f s | %d MiB |' % (
