@@ -8,7 +8,10 @@ use Rattle.outline_data.specs.declared.fault.SheetFault.{SheetFault}
 use Rattle.outline_data.specs.declared.fault.SheetFault.TheVariants.{Limit, NoMemory as no_memory}
 use Rattle.outline_theory.specs.Reading.{IsFirstFault}
 use Rattle.sheet_reader.specs.Faults.{IsReadFault}
+use Rattle.position_theory.specs.States.{HasMoreStates}
+use Rattle.position_theory.proofs.LiteralLemmas.{literal_states}
 use Rattle.sheet_reader.specs.Ranking.{IsScannable}
+use Rattle.token_patterns.specs.declared.limits.TheConstants.{STATES}
 use Rattle.token_patterns.specs.Build.{CanBuild}
 use Rattle.lrpar_cli.specs.declared.inputs.Stop.{Stop}
 use Rattle.lrpar_cli.specs.declared.inputs.Stop.TheVariants.{Sheet as sheet_stop, TextTooLong as long_stop, ReadFault as read_stop, NoMemory as memory_stop}
@@ -50,4 +53,11 @@ refusal_of bytes fault memory_stop some read refusal = tt
 
 -- a sheet's patterns are what a scanner is made for
 pub can_build : (patterns : List Pattern) → IsScannable patterns → CanBuild patterns
-can_build patterns s = record { count = s.count; positions = s.positions; none_empty = s.not_empty; literals = s.literals }
+can_build patterns s = record { count = s.count; positions = s.positions; none_empty = s.not_empty }
+
+-- and they have fewer states than a scanner may have
+pub few_states : (patterns : List Pattern) → IsScannable patterns → HasMoreStates patterns STATES → ⊥
+few_states patterns s more =
+    let few = literal_states patterns STATES s.literals more in
+    let positions = s.positions in
+    omega (arith, few, positions)

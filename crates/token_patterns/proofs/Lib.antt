@@ -1,2 +1,7 @@
-pub mod LiteralLemmas
+pub mod AheadLemmas
+pub mod ConditionLemmas
+pub mod KeyLemmas
 pub mod LongestLemmas
+pub mod SearchLemmas
+pub mod SetLemmas
+pub mod TableLemmas

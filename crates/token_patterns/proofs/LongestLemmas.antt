@@ -1,154 +1,186 @@
--- The longest literal that begins a text, and what it is of the literals' patterns.
-use Rattle.std.proofs.Common.{◌≡◌, ℕ, ◌+◌, ◌-◌, ◌<◌, ◌≤◌, List, [], map, length, take, drop, refl, sym, ap, ◌∙◌, subst, ⊎_elim, arith, min, length-take, length-drop}
-use Rattle.std.specs.Prelude.{slice_get, Option, Some, None, MatchOption, IfSome}
-use Rattle.std.proofs.lemmas.List.{take_all}
-use Rattle.std.specs.Option.{option_map}
+-- The longest match, by the states of the strings that are read.
+use Rattle.std.proofs.Common.{◌≡◌, ◌≢◌, ℕ, suc, ◌+◌, ◌-◌, ◌*◌, ◌/◌, ◌%◌, ◌<◌, ◌≤◌, ◌↔◌, inl, inr, ⊎_elim, List, [], ◌∷◌, ◌++◌, length, take, drop, get_or, sym, ap, ◌∙◌, subst, arith, length-drop}
+use Rattle.std.specs.Prelude.{slice_get, slice_index, Option, Some, None, MatchOption, IfSome}
+use Rattle.std.proofs.Math.Seq.{take-add}
 use Rattle.std.proofs.lemmas.Bool.{cases_lt}
-use Rattle.std.proofs.lemmas.Option.{slice_get_within, slice_get-map, get_or_from_slice_get}
+use Rattle.std.proofs.lemmas.List.{length-take, take_more, get_or-drop}
+use Rattle.std.proofs.lemmas.Option.{slice_get_within}
 use Rattle.pattern_data.specs.declared.pattern.Pattern.{Pattern}
-use Rattle.pattern_data.specs.Language.{Matches, IsLiteral, literal_pattern}
-use Rattle.pattern_data.proofs.LanguageLemmas.{literal-match}
+use Rattle.position_theory.specs.Positions.{ReachesOne}
+use Rattle.position_theory.specs.States.{HaveSameSet}
+use Rattle.position_theory.proofs.MatchLemmas.{match_ends, ends_match, one_some}
+use Rattle.position_theory.proofs.StateLemmas.{same_step, front_reaches, get_at}
 use Rattle.scanning_theory.specs.Scan.{IsMatch, HasNoMatch, IsLongest}
-use Rattle.token_patterns.specs.Scanner.{IsScannerOf, BeginsWith, HasNoLiteral, IsLongestLiteral}
+use Rattle.token_patterns.specs.Ahead.{no_rank}
+use Rattle.token_patterns.specs.Scanner.{Table, IsStep, IsEnding, IsEnd, IsScannerOf, IsTable, EndsMatch}
 
--- the best of the first so many literals: none of them that begins the text is longer; where it isn't empty, it is one of
--- them and begins the text, and none of a lesser rank that has its length does
-pub record IsBestBelow (literals : List (List ℕ)) (text : List ℕ) (count len rank : ℕ) : Type 0 where
-  pub above : (other_len other : ℕ) → other < count → BeginsWith literals text other_len other → other_len ≤ len
-  pub found : 0 < len → BeginsWith literals text len rank × (rank < count)
-  pub least : (other : ℕ) → 0 < len → BeginsWith literals text len other → rank ≤ other
+-- the bytes that were read
+abbrev pub read_of : List ℕ → ℕ → ℕ → List ℕ
+read_of text from n = take n (drop from text)
 
-pub best-none : (literals : List (List ℕ)) (text : List ℕ) → IsBestBelow literals text 0 0 0
-best-none literals text = record { above = λ other_len other below begins. absurd (omega arith); found = λ some. absurd (omega arith); least = λ other some begins. absurd (omega arith) }
+-- the best match among those that are no longer than what was read
+abbrev pub IsBest : List Pattern → List ℕ → ℕ → ℕ → Option (ℕ × ℕ) → Type 0
+IsBest patterns text from read best = MatchOption best
+    ((len rank : ℕ) → len ≤ read → IsMatch patterns text from len rank → ⊥)
+    (λ found. IsMatch patterns text from found.0 found.1 × ((len rank : ℕ) → len ≤ read → IsMatch patterns text from len rank → len ≤ found.0) × ((rank : ℕ) → IsMatch patterns text from found.0 rank → found.1 ≤ rank))
 
--- what begins with the literal at this place
-begins-here : (literals : List (List ℕ)) (text : List ℕ) (k len : ℕ) (bytes : List ℕ) → slice_get literals k ≡ Some bytes → BeginsWith literals text len k → (length bytes ≡ len) × (take (length bytes) text ≡ bytes)
-begins-here literals text k len bytes at begins =
-    let both : Some begins.bytes ≡ Some bytes = sym begins.ranked ∙ at in
-    let same : begins.bytes ≡ bytes = cc in
-    let size : length bytes ≡ len = ap length (sym same) ∙ begins.sized in
-    (size, ap (λ n. take n text) size ∙ begins.begins ∙ same)
+-- the state is that of what was read
+pub record IsRead (table : Table) (patterns : List Pattern) (s : IsScannerOf table patterns) (w : List ℕ) (state : ℕ) : Type 0 where
+  pub word : List ℕ
+  pub at : slice_get s.words state ≡ Some word
+  pub same : HaveSameSet patterns word w
+  pub none : (word ≡ []) ↔ (w ≡ [])
 
--- a literal that is no longer, or doesn't begin the text, changes nothing
-pub best-skip : (literals : List (List ℕ)) (text : List ℕ) (k len rank : ℕ) (bytes : List ℕ) → slice_get literals k ≡ Some bytes → IsBestBelow literals text k len rank → ((len < length bytes) × (take (length bytes) text ≡ bytes) → ⊥) → IsBestBelow literals text (k + 1) len rank
-best-skip literals text k len rank bytes at best skipped = record {
-  above = λ other_len other below begins.
-      ⊎_elim (λ lower. best.above other_len other lower begins)
-      (λ upper. let same : other ≡ k = omega arith in
-      let here = begins-here literals text k other_len bytes at (let P : ℕ → Type 0 = λ r. BeginsWith literals text other_len r in subst P same begins) in
-      let size : length bytes ≡ other_len = here.0 in
-      ⊎_elim (λ longer. absurd (skipped (longer, here.1))) (λ short. omega arith) (cases_lt len (length bytes)))
-      (cases_lt other k);
-  found = λ some. let h = best.found some in let below : rank < k = h.1 in (h.0, omega arith);
-  least = best.least;
-}
+module _ (text : List ℕ) (from : ℕ) where
+  pub read_length : (n : ℕ) → from + n ≤ length text → length (read_of text from n) ≡ n
+  read_length n inside = length-take n (drop from text) ∙ (let rest : length (drop from text) ≡ length text - from = length-drop from text in omega (arith, rest))
 
--- a longer one that begins the text is the best
-pub best-take : (literals : List (List ℕ)) (text : List ℕ) (k len rank : ℕ) (bytes : List ℕ) → slice_get literals k ≡ Some bytes → IsBestBelow literals text k len rank → len < length bytes → take (length bytes) text ≡ bytes → IsBestBelow literals text (k + 1) (length bytes) k
-best-take literals text k len rank bytes at best longer begins = record {
-  above = λ other_len other below other_begins.
-      ⊎_elim (λ lower. let under : other_len ≤ len = best.above other_len other lower other_begins in omega arith)
-      (λ upper. let same : other ≡ k = omega arith in
-      let here = begins-here literals text k other_len bytes at (let P : ℕ → Type 0 = λ r. BeginsWith literals text other_len r in subst P same other_begins) in
-      let size : length bytes ≡ other_len = here.0 in omega arith)
-      (cases_lt other k);
-  found = λ some. (record { bytes = bytes; ranked = at; sized = refl; begins = begins }, omega arith);
-  least = λ other some other_begins.
-      ⊎_elim (λ lower. let under : length bytes ≤ len = best.above (length bytes) other lower other_begins in omega arith) (λ upper. upper) (cases_lt other k);
-}
+  read_some : (n : ℕ) → 0 < n → from + n ≤ length text → read_of text from n ≢ []
+  read_some n some inside none = let size : length (read_of text from n) ≡ 0 = ap length none in let is = read_length n inside in omega (arith, size, is, some)
 
-begins-within : (literals : List (List ℕ)) (text : List ℕ) (len rank : ℕ) → BeginsWith literals text len rank → rank < length literals
-begins-within literals text len rank begins = slice_get_within literals rank begins.bytes begins.ranked
-
--- the best of all
-pub best-all : (literals : List (List ℕ)) (text : List ℕ) (count len rank : ℕ) → length literals ≤ count → IsBestBelow literals text count len rank → 0 < len → IsLongestLiteral literals text len rank
-best-all literals text count len rank all best some = record {
-  some = some;
-  begins = (best.found some).0;
-  longest = λ other_len other begins. let within : other < length literals = begins-within literals text other_len other begins in best.above other_len other (omega arith) begins;
-  least = λ other begins. best.least other some begins;
-}
-
-pub best-all_none : (literals : List (List ℕ)) (text : List ℕ) (count rank : ℕ) → length literals ≤ count → IsBestBelow literals text count 0 rank → HasNoLiteral literals text
-best-all_none literals text count rank all best len other some begins =
-    let within : other < length literals = begins-within literals text len other begins in
-    let none : len ≤ 0 = best.above len other (omega arith) begins in omega arith
-
--- ---- patterns
-pattern_at : (literals : List (List ℕ)) (rank : ℕ) (pattern : Pattern) → slice_get (map literal_pattern literals) rank ≡ Some pattern → (bytes : List ℕ) × (slice_get literals rank ≡ Some bytes) × (pattern ≡ literal_pattern bytes)
-pattern_at literals rank pattern is = go (slice_get literals rank) refl
-  where
-    go : (o : Option (List ℕ)) → slice_get literals rank ≡ o → (bytes : List ℕ) × (slice_get literals rank ≡ Some bytes) × (pattern ≡ literal_pattern bytes)
-    go None e = let both : None ≡ Some pattern = ap (λ o. option_map literal_pattern o) (sym e) ∙ sym (slice_get-map literal_pattern literals rank) ∙ is in absurd (cc)
-    go (Some bytes) e =
-        let both : Some (literal_pattern bytes) ≡ Some pattern = ap (λ o. option_map literal_pattern o) (sym e) ∙ sym (slice_get-map literal_pattern literals rank) ∙ is in
-        (bytes, e, cc)
-
-module _ (literals : List (List ℕ)) (patterns : List Pattern) (of : IsScannerOf literals patterns) (text : List ℕ) (from : ℕ) (within : from ≤ length text) where
-  literal_at : (rank : ℕ) (bytes : List ℕ) → slice_get literals rank ≡ Some bytes → IsLiteral bytes
-  literal_at rank bytes at =
-      let P : List ℕ → Type 0 = λ bs. IsLiteral bs in
-      subst P (get_or_from_slice_get literals rank bytes [] at) (of.each rank [] (slice_get_within literals rank bytes at))
-
-  -- a literal that begins the rest of the text is a match, and the other way round
-  pub match-from : (len rank : ℕ) → 0 < len → BeginsWith literals (drop from text) len rank → IsMatch patterns text from len rank
-  match-from len rank some begins =
-      let size : length (take len (drop from text)) ≡ len = ap length begins.begins ∙ begins.sized in
-      let cut : length (take len (drop from text)) ≡ min len (length (drop from text)) = length-take len (drop from text) in
+  pub read_more : (n : ℕ) → from + n < length text → read_of text from (n + 1) ≡ read_of text from n ++ get_or text (from + n) 0 ∷ []
+  read_more n inside =
       let rest : length (drop from text) ≡ length text - from = length-drop from text in
-      record {
-        pattern = literal_pattern begins.bytes;
-        ranked = ap (λ ps. slice_get ps rank) of.patterns_of ∙ slice_get-map literal_pattern literals rank ∙ ap (λ o. option_map literal_pattern o) begins.ranked;
-        some = some;
-        inside = omega arith;
-        matched = (literal-match begins.bytes (take len (drop from text)) (literal_at rank begins.bytes begins.ranked)).1 begins.begins;
-      }
+      take_more (drop from text) n 0 (omega (arith, rest)) ∙ ap (λ b. read_of text from n ++ b ∷ []) (get_or-drop from text n 0)
 
-  pub match-begins : (len rank : ℕ) → IsMatch patterns text from len rank → BeginsWith literals (drop from text) len rank
-  match-begins len rank match =
-      let found = pattern_at literals rank match.pattern (ap (λ ps. slice_get ps rank) (sym of.patterns_of) ∙ match.ranked) in
-      let P : Pattern → Type 0 = λ p. Matches p (take len (drop from text)) in
-      let begins : take len (drop from text) ≡ found.0 = (literal-match found.0 (take len (drop from text)) (literal_at rank found.0 found.1)).0 (subst P found.2 match.matched) in
-      let inside : from + len ≤ length text = match.inside in
-      let cut : length (take len (drop from text)) ≡ min len (length (drop from text)) = length-take len (drop from text) in
-      let rest : length (drop from text) ≡ length text - from = length-drop from text in
-      let size : length (take len (drop from text)) ≡ length found.0 = ap length begins in
-      record { bytes = found.0; ranked = found.1; sized = omega arith; begins = begins }
+module _ (table : Table) (patterns : List Pattern) (s : IsScannerOf table patterns) (text : List ℕ) (from : ℕ) where
+  -- ---- matches
+  match_reaches : (len rank : ℕ) → IsMatch patterns text from len rank → IsEnding patterns (read_of text from len) rank
+  match_reaches len rank m = match_ends patterns rank m.pattern (read_of text from len) m.ranked (read_some text from len m.some m.inside) m.matched
 
-  pub longest-from : (len rank : ℕ) → IsLongestLiteral literals (drop from text) len rank → IsLongest patterns text from len rank
-  longest-from len rank best = record {
-    matches = match-from len rank best.some best.begins;
-    longest = λ other_len other match. best.longest other_len other (match-begins other_len other match);
-    least = λ other match. best.least other (match-begins len other match);
-  }
+  ending_moved : (u w : List ℕ) (rank : ℕ) → HaveSameSet patterns u w → IsEnding patterns w rank → IsEnding patterns u rank
+  ending_moved u w rank same (q, reach, ends) = (q, (same q).1 reach, ends)
 
-  pub no_match-from : HasNoLiteral literals (drop from text) → HasNoMatch patterns text from
-  no_match-from none len rank match = none len rank match.some (match-begins len rank match)
+  match_here : (n rank : ℕ) → 0 < n → from + n ≤ length text → rank < length patterns → IsEnding patterns (read_of text from n) rank → IsMatch patterns text from n rank
+  match_here n rank some inside below ending =
+      let p = get_at patterns rank below in
+      record { pattern = p.0; ranked = p.1; some = some; inside = inside; matched = ends_match patterns rank p.0 (read_of text from n) p.1 ending.0 ending.1 ending.2 }
 
--- what a search says of the rest of a text, it says of the text from there
-abbrev MatchLongest : List (List ℕ) → List ℕ → Option (ℕ × ℕ) → Type 0
-MatchLongest literals rest result = MatchOption result (HasNoLiteral literals rest) (λ found. IsLongestLiteral literals rest found.0 found.1)
+  rank_below : (len rank : ℕ) → IsMatch patterns text from len rank → rank < length patterns
+  rank_below len rank m = slice_get_within patterns rank m.pattern m.ranked
 
-longest_result : (literals : List (List ℕ)) (text : List ℕ) (from : ℕ) (result : Option (ℕ × ℕ)) → from ≤ length text → MatchLongest literals (drop from text) result → (patterns : List Pattern) → IsScannerOf literals patterns → MatchOption result (HasNoMatch patterns text from) (λ found. IsLongest patterns text from found.0 found.1)
-longest_result literals text from None within none patterns of = no_match-from literals patterns of text from within none
-longest_result literals text from (Some (len, rank)) within best patterns of = longest-from literals patterns of text from within len rank best
+  -- ---- one more byte
+  best_none : (n : ℕ) (best : Option (ℕ × ℕ)) → ((rank : ℕ) → IsMatch patterns text from (n + 1) rank → ⊥) → IsBest patterns text from n best → IsBest patterns text from (n + 1) best
+  best_none n None none best = λ len rank below m. ⊎_elim (λ less. best len rank (omega arith) m) (λ upper. let same : len ≡ n + 1 = omega arith in none rank (subst (λ l. IsMatch patterns text from l rank) same m)) (cases_lt len (n + 1))
+  best_none n (Some found) none (m, longest, least) =
+      (m, λ len rank below other. ⊎_elim (λ less. longest len rank (omega arith) other) (λ upper. let same : len ≡ n + 1 = omega arith in absurd (none rank (subst (λ l. IsMatch patterns text from l rank) same other))) (cases_lt len (n + 1)), least)
 
-longest_rank : (literals : List (List ℕ)) (rest : List ℕ) (result : Option (ℕ × ℕ)) → MatchLongest literals rest result → IfSome result (λ found. found.1 < length literals)
-longest_rank literals rest None none = tt
-longest_rank literals rest (Some (len, rank)) best = begins-within literals rest len rank best.begins
+  module _ (n state : ℕ) (inside : from + (n + 1) ≤ length text) (r : IsRead table patterns s (read_of text from (n + 1)) state) (few : table.ranks ≤ 300) where
+    end_here : IsEnd patterns (r.word) (slice_index table.ends state)
+    end_here = s.ends state r.word (let below = slice_get_within s.words state r.word r.at in let size = s.states_are in omega (arith, below, size)) r.at
 
-rest_all : (text : List ℕ) (from : ℕ) → take (length text - from) (drop from text) ≡ drop from text
-rest_all text from = take_all (length text - from) (drop from text) (omega (arith, length-drop from text))
+    from_read : (rank : ℕ) → IsMatch patterns text from (n + 1) rank → IsEnding patterns (r.word) rank
+    from_read rank m = ending_moved r.word (read_of text from (n + 1)) rank r.same (match_reaches (n + 1) rank m)
 
-module _ (literals kept : List (List ℕ)) (text : List ℕ) (from : ℕ) (result : Option (ℕ × ℕ)) (same : kept ≡ literals)
-    (found : MatchLongest kept (take (length text - from) (drop from text)) result) where
-  found_here : MatchLongest literals (drop from text) result
-  found_here =
-      let P : List (List ℕ) → List ℕ → Type 0 = λ ls rest. MatchLongest ls rest result in
-      subst (λ ls. P ls (drop from text)) same (subst (P kept) (rest_all text from) found)
+    to_read : (rank : ℕ) → rank < length patterns → IsEnding patterns (r.word) rank → IsMatch patterns text from (n + 1) rank
+    to_read rank below (q, reach, ends) = match_here (n + 1) rank (omega arith) inside below (q, (r.same q).0 reach, ends)
 
-  pub longest-at : from ≤ length text → (patterns : List Pattern) → IsScannerOf literals patterns → MatchOption result (HasNoMatch patterns text from) (λ found. IsLongest patterns text from found.0 found.1)
-  longest-at within = longest_result literals text from result within found_here
+    no_end : slice_index table.ends state ≡ no_rank → IsEnd patterns (r.word) (slice_index table.ends state) → (rank : ℕ) → IsMatch patterns text from (n + 1) rank → ⊥
+    no_end is (inl none) rank m = none.1 rank (rank_below (n + 1) rank m) (from_read rank m)
+    no_end is (inr least) rank m = let below = least.0 in let ranks = s.ranks_are in omega (arith, is, below, ranks, few)
 
-  pub longest-ranked : IfSome result (λ found. found.1 < length literals)
-  longest-ranked = longest_rank literals (drop from text) result found_here
+    some_end : slice_index table.ends state ≢ no_rank → IsEnd patterns (r.word) (slice_index table.ends state) → IsBest patterns text from (n + 1) (Some (n + 1, slice_index table.ends state))
+    some_end other (inl none) = absurd (other none.0)
+    some_end other (inr least) = (to_read (slice_index table.ends state) least.0 least.1, λ len rank under m. under, λ rank m. least.2 rank (rank_below (n + 1) rank m) (from_read rank m))
+
+    pub best_more : (before result : Option (ℕ × ℕ)) → EndsMatch (slice_index table.ends state) (n + 1) before result → IsBest patterns text from n before → IsBest patterns text from (n + 1) result
+    best_more before result (inl (is, same)) best = subst (λ (o : Option (ℕ × ℕ)). IsBest patterns text from (n + 1) o) (sym same) (best_none n before (no_end is end_here) best)
+    best_more before result (inr (below, same)) best = subst (λ (o : Option (ℕ × ℕ)). IsBest patterns text from (n + 1) o) (sym same) (some_end below end_here)
+
+  -- ---- the state of one more byte
+  module _ (n state byte cell : ℕ) (inside : from + n < length text) (is_byte : byte ≡ get_or text (from + n) 0) (small : byte < 256) (r : IsRead table patterns s (read_of text from n) state)
+      (sized : length table.cells ≡ 256 * length table.ends) (is_cell : cell ≡ slice_index table.cells (256 * state + byte)) where
+    i : ℕ
+    i = 256 * state + byte
+
+    longer : read_of text from (n + 1) ≡ read_of text from n ++ byte ∷ []
+    longer = read_more text from n inside ∙ ap (λ b. read_of text from n ++ b ∷ []) (sym is_byte)
+
+    step_here : IsStep patterns s.words (r.word ++ byte ∷ []) cell
+    step_here =
+        let below = slice_get_within s.words state r.word r.at in
+        let size = s.states_are in
+        let state_is : (256 * state + byte) / 256 ≡ state = omega (arith, small) in
+        let byte_is : (256 * state + byte) % 256 ≡ byte = omega (arith, small) in
+        let step = s.steps (256 * state + byte) r.word (omega (arith, below, size, sized, small)) (ap (λ k. slice_get s.words k) state_is ∙ r.at) in
+        subst (λ c. IsStep patterns s.words (r.word ++ byte ∷ []) c) (sym is_cell) (subst (λ b. IsStep patterns s.words (r.word ++ b ∷ []) (slice_index table.cells (256 * state + byte))) byte_is step)
+
+    next_same : HaveSameSet patterns (r.word ++ byte ∷ []) (read_of text from (n + 1))
+    next_same = subst (λ (w : List ℕ). HaveSameSet patterns (r.word ++ byte ∷ []) w) (sym longer) (same_step patterns r.word (read_of text from n) byte r.none r.same)
+
+    -- where no string goes on, none is longer
+    no_longer : ((q : ℕ) → ReachesOne patterns (r.word ++ byte ∷ []) q → ⊥) → (len rank : ℕ) → IsMatch patterns text from len rank → len ≤ n
+    no_longer dead len rank m = ⊎_elim (λ less. omega arith)
+        (λ upper.
+        let rest : ℕ = len - (n + 1) in
+        let parts : len ≡ (n + 1) + rest = omega arith in
+        let cut : read_of text from len ≡ read_of text from (n + 1) ++ take rest (drop (n + 1) (drop from text)) = ap (λ k. take k (drop from text)) parts ∙ take-add (n + 1) rest (drop from text) in
+        let ending = match_reaches len rank m in
+        let reach : ReachesOne patterns (read_of text from (n + 1) ++ take rest (drop (n + 1) (drop from text))) ending.0 = subst (λ (w : List ℕ). ReachesOne patterns w ending.0) cut ending.1 in
+        let some : read_of text from (n + 1) ≢ [] = read_some text from (n + 1) (omega arith) (omega arith) in
+        let t = front_reaches patterns (read_of text from (n + 1)) (take rest (drop (n + 1) (drop from text))) ending.0 reach some in
+        absurd (dead t.0 ((next_same t.0).1 t.1)))
+        (cases_lt len (n + 1))
+
+    pub dead_end : cell ≡ 0 → (len rank : ℕ) → IsMatch patterns text from len rank → len ≤ n
+    dead_end zeroth = ⊎_elim
+        (λ dead. no_longer dead.1)
+        (λ alive. absurd (let above = alive.1 in omega (arith, above, zeroth)))
+        step_here
+
+    alive_word : (u : List ℕ) → 0 < cell → slice_get s.words cell ≡ Some u → u ≢ []
+    alive_word u above at =
+        let again : (words : List (List ℕ)) (k : ℕ) → slice_get words (suc k) ≡ Some u → slice_get (drop 1 words) k ≡ Some u = tail_at in
+        let before : suc (cell - 1) ≡ cell = omega arith in
+        let r = s.states.others.some (cell - 1) u (again s.words (cell - 1) (ap (λ k. slice_get s.words k) before ∙ at)) in
+        one_some r.1
+      where
+        tail_at : (words : List (List ℕ)) (k : ℕ) → slice_get words (suc k) ≡ Some u → slice_get (drop 1 words) k ≡ Some u
+        tail_at [] k at = absurd (cc)
+        tail_at (w ∷ words) k at = at
+
+    pub read_on : cell ≢ 0 → IsRead table patterns s (read_of text from (n + 1)) cell
+    read_on other = ⊎_elim
+        (λ dead. absurd (other dead.0))
+        (λ alive.
+        let some : read_of text from (n + 1) ≢ [] = read_some text from (n + 1) (omega arith) (omega arith) in
+        let word_some = alive_word alive.0 alive.1 alive.2 in
+        record {
+          word = alive.0;
+          at = alive.2;
+          same = λ q. (λ reach. (next_same q).0 ((alive.3 q).0 reach), λ reach. (alive.3 q).1 ((next_same q).1 reach));
+          none = (λ e. absurd (word_some e), λ e. absurd (some e));
+        })
+        step_here
+
+  -- ---- the beginning and the end
+  pub read_start : IsRead table patterns s (read_of text from 0) 0
+  read_start = record { word = []; at = s.states.start; same = λ q. (λ r. r, λ r. r); none = (λ e. e, λ e. e) }
+
+  pub best_start : IsBest patterns text from 0 None
+  best_start len rank below m = let some = m.some in omega (arith, some, below)
+
+  pub longest_of : (n : ℕ) (best : Option (ℕ × ℕ)) → ((len rank : ℕ) → IsMatch patterns text from len rank → len ≤ n) → IsBest patterns text from n best
+      → MatchOption best (HasNoMatch patterns text from) (λ found. IsLongest patterns text from found.0 found.1)
+  longest_of n None all best = λ len rank m. best len rank (all len rank m) m
+  longest_of n (Some found) all (m, longest, least) = record { matches = m; longest = λ len rank other. longest len rank (all len rank other) other; least = least }
+
+  pub all_read : (n : ℕ) → length text ≤ from + n → (len rank : ℕ) → IsMatch patterns text from len rank → len ≤ n
+  all_read n done len rank m = let inside = m.inside in omega (arith, inside, done)
+
+-- a fact of each match that is found
+pub ended_keeps : (P : ℕ × ℕ → Type 0) (end len : ℕ) (before result : Option (ℕ × ℕ)) → EndsMatch end len before result → IfSome before P → (end ≢ no_rank → P (len, end)) → IfSome result P
+ended_keeps P end len before result (inl (is, same)) old new = subst (λ (o : Option (ℕ × ℕ)). IfSome o P) (sym same) old
+ended_keeps P end len before result (inr (other, same)) old new = subst (λ (o : Option (ℕ × ℕ)). IfSome o P) (sym same) (new other)
+
+-- a match within what was read, when more was read
+pub within_more : (best : Option (ℕ × ℕ)) (from at : ℕ) → IfSome best (λ found. from + found.0 ≤ at) → IfSome best (λ found. from + found.0 ≤ at + 1)
+within_more None from at h = tt
+within_more (Some found) from at h = omega (arith, h)
+
+-- an end is a rank where it isn't that of no pattern
+pub rank_of_end : (table : Table) (state : ℕ) → IsTable table → state < length table.ends → slice_index table.ends state ≢ no_rank → slice_index table.ends state < table.ranks
+rank_of_end table state is inside other = ⊎_elim (λ none. absurd (other none)) (λ below. below) (is.ends_ranked state 0 inside)
+
+pub cell_inside : (table : Table) (i : ℕ) → IsTable table → i < length table.cells → slice_index table.cells i < length table.ends
+cell_inside table i is inside = is.cells_inside i 0 inside

@@ -1,18 +1,17 @@
 //! Rows of the longest match, of a text's lines and of the tokens of some of them.
-ghost use Rattle.std.specs.Prelude.{◌≡◌, ◌↔◌, IsTrue, IfOk};
-ghost use Rattle.pattern_data.specs.Language.{IsLiteral};
+ghost use Rattle.std.specs.Prelude.{◌<◌, IfOk};
 ghost use Rattle.token_patterns.specs.Build.{CanBuild};
-ghost use Rattle.worked_rows.specs.Room.{HasRoom};
 
 use crate::memory::LETS;
 use grammar_data::{Place, Token, TokenId};
 use line_lexer::{Lines, lex_lines};
 use lr_base::TEXT_BYTES;
-use pattern_data::{Pattern, literal_law};
+use pattern_data::{ByteSet, Pattern};
 use sheet_reader::read_sheet;
+use sqlite_items::{Boxed, Items};
 use std::alloc::{AllocError, Global};
 use std::test::Fail;
-use token_patterns::{PATTERNS, POSITIONS, Scanner};
+use token_patterns::{Scanner, ScannerFault, can_build};
 
 /// Literals in order of rank, parted by spaces, and their longest match at a place of a text.
 struct MatchRow {
@@ -89,44 +88,24 @@ static MATCHES: [MatchRow; 9] = [
     },
 ];
 
-fn is_literal(bytes: &[u8]) -> bool
-    ensures { IsTrue result ↔ IsLiteral bytes.now }
+/// The patterns, where a scanner can be built of them.
+fn scannable(alloc: Global, patterns: Vec<Pattern>) -> Result<Vec<Pattern>, Fail>
+    ensures { IfOk result (λ found. CanBuild found.items) }
 {
-    !bytes.is_empty() && bytes.iter().all(|byte| *byte != b'\n')
-}
-
-/// Adds the pattern of a literal, where the bytes are one, and answers how many positions are left.
-fn add_literal(
-    alloc: Global,
-    patterns: &mut Vec<Pattern>,
-    positions: usize,
-    bytes: &[u8],
-) -> Result<usize, Fail>
-    requires { HasRoom patterns.old.items positions }
-    ensures { IfOk result (λ left. HasRoom patterns.new.items left) }
-{
-    if !is_literal(bytes) {
-        return Ok(positions);
+    if can_build(alloc, &patterns)? {
+        Ok(patterns)
+    } else {
+        Err(Fail::new("no scanner can be built of the patterns"))
     }
-    if PATTERNS <= patterns.len() {
-        return Err(Fail::new("too many patterns"));
-    }
-    if positions < bytes.len() {
-        return Err(Fail::new("too many positions"));
-    }
-    literal_law();
-    patterns.push(Pattern::literal(alloc, bytes)?)?;
-    Ok(positions - bytes.len())
 }
 
 /// The patterns of the literals that spaces part.
-fn patterns_of(alloc: Global, literals: &str) -> Result<Vec<Pattern>, Fail>
-    ensures { IfOk result (λ patterns. CanBuild patterns.items) }
-{
+fn patterns_of(alloc: Global, literals: &str) -> Result<Vec<Pattern>, Fail> {
     let mut patterns = Vec::new(alloc);
-    let mut positions = POSITIONS;
     for literal in literals.split(' ') {
-        positions = add_literal(alloc, &mut patterns, positions, literal.as_bytes())?;
+        if !literal.is_empty() {
+            patterns.push(Pattern::literal(alloc, literal.as_bytes())?)?;
+        }
     }
     Ok(patterns)
 }
@@ -136,7 +115,7 @@ fn found_by(alloc: Global, row: &MatchRow) -> Result<Option<(usize, u32)>, Fail>
     if row.text.len() < row.from {
         return Err(Fail::new("a place behind the text"));
     }
-    let patterns = patterns_of(alloc, row.literals)?;
+    let patterns = scannable(alloc, patterns_of(alloc, row.literals)?)?;
     let scanner = Scanner::build(alloc, &patterns)?;
     Ok(scanner.longest(row.text, row.from))
 }
@@ -147,6 +126,268 @@ fn finds_the_longest_match_of_the_least_rank(rt: HostRuntime) -> Result<(), Fail
         let found = found_by(rt.alloc(), row)?;
         assert_eq!(rt; found, row.found, "{}", row.name);
     }
+    Ok(())
+}
+
+/// Patterns, each written behind its parts, and their longest match at a place of a text.
+///
+/// A letter is its set, `#` the set of `a` and `b`, `@` that of all small letters; `.` puts the last two one after
+/// another, `|` gives a choice of them, and `*`, `+` and `?` repeat the last one or leave it out.
+struct PatternRow {
+    name: &'static str,
+    patterns: &'static str,
+    text: &'static [u8],
+    from: usize,
+    found: Option<(usize, u32)>,
+}
+
+static PATTERN_ROWS: [PatternRow; 16] = [
+    PatternRow {
+        name: "the last end of several",
+        patterns: "#*a.",
+        text: b"abbab",
+        from: 0,
+        found: Some((4, 0)),
+    },
+    PatternRow {
+        name: "only the first byte",
+        patterns: "#*a.",
+        text: b"abbbb",
+        from: 0,
+        found: Some((1, 0)),
+    },
+    PatternRow {
+        name: "no end behind the place",
+        patterns: "#*a.",
+        text: b"abbb",
+        from: 1,
+        found: None,
+    },
+    PatternRow {
+        name: "a tie of word and name goes to the word",
+        patterns: "if. @+",
+        text: b"if",
+        from: 0,
+        found: Some((2, 0)),
+    },
+    PatternRow {
+        name: "the longer name before the word",
+        patterns: "if. @+",
+        text: b"iffy",
+        from: 0,
+        found: Some((4, 1)),
+    },
+    PatternRow {
+        name: "a tie of name and word goes to the name",
+        patterns: "@+ if.",
+        text: b"if",
+        from: 0,
+        found: Some((2, 0)),
+    },
+    PatternRow {
+        name: "the longer of a choice",
+        patterns: "ab.a|c.",
+        text: b"abc",
+        from: 0,
+        found: Some((3, 0)),
+    },
+    PatternRow {
+        name: "the shorter of a choice",
+        patterns: "ab.a|c.",
+        text: b"acb",
+        from: 0,
+        found: Some((2, 0)),
+    },
+    PatternRow {
+        name: "a choice that stops in the middle",
+        patterns: "ab.a|c.",
+        text: b"ab",
+        from: 0,
+        found: None,
+    },
+    PatternRow {
+        name: "an option that is left out",
+        patterns: "a?b.",
+        text: b"ba",
+        from: 0,
+        found: Some((1, 0)),
+    },
+    PatternRow {
+        name: "an option that is there",
+        patterns: "a?b.",
+        text: b"aab",
+        from: 1,
+        found: Some((2, 0)),
+    },
+    PatternRow {
+        name: "at least once",
+        patterns: "a+",
+        text: b"aaab",
+        from: 0,
+        found: Some((3, 0)),
+    },
+    PatternRow {
+        name: "not once",
+        patterns: "a+",
+        text: b"b",
+        from: 0,
+        found: None,
+    },
+    PatternRow {
+        name: "a repetition within a repetition",
+        patterns: "ab*.+",
+        text: b"abbabc",
+        from: 0,
+        found: Some((5, 0)),
+    },
+    PatternRow {
+        name: "a shorter match behind a longer beginning",
+        patterns: "a aab..c.",
+        text: b"aabb",
+        from: 0,
+        found: Some((1, 0)),
+    },
+    PatternRow {
+        name: "no patterns",
+        patterns: "",
+        text: b"a",
+        from: 0,
+        found: None,
+    },
+];
+
+/// The set of the bytes from 64 on whose bits are set.
+fn upper_set(word: u64) -> ByteSet
+    requires { 0 < word }
+{
+    ByteSet::from_words([0, word, 0, 0])
+}
+
+/// Takes the pattern on top.
+fn take(stack: &mut Vec<Pattern>) -> Result<Pattern, Fail> {
+    match stack.pop() {
+        Some(pattern) => Ok(pattern),
+        None => Err(Fail::new("a part is missing")),
+    }
+}
+
+/// The pattern of the last two.
+fn joined(alloc: Global, stack: &mut Vec<Pattern>) -> Result<Items<Pattern>, Fail> {
+    let second = take(stack)?;
+    let first = take(stack)?;
+    let mut members = Vec::new(alloc);
+    members.push(first)?;
+    members.push(second)?;
+    Ok(Items::from_vec(members))
+}
+
+/// The pattern for a byte of the row, of the patterns before it.
+fn part(alloc: Global, stack: &mut Vec<Pattern>, byte: u8) -> Result<Pattern, Fail> {
+    match byte {
+        b'#' => Ok(Pattern::Set(upper_set(3 << 33))),
+        b'@' => Ok(Pattern::Set(upper_set(0x03ff_ffff << 33))),
+        b'.' => Ok(Pattern::Seq(joined(alloc, stack)?)),
+        b'|' => Ok(Pattern::Alt(joined(alloc, stack)?)),
+        b'*' => Ok(Pattern::Star(Boxed::new(alloc, take(stack)?)?)),
+        b'+' => Ok(Pattern::Plus(Boxed::new(alloc, take(stack)?)?)),
+        b'?' => Ok(Pattern::Opt(Boxed::new(alloc, take(stack)?)?)),
+        _ => Ok(Pattern::literal(alloc, &[byte])?),
+    }
+}
+
+/// The patterns of a row.
+fn read_patterns(alloc: Global, text: &str) -> Result<Vec<Pattern>, Fail> {
+    let mut stack = Vec::new(alloc);
+    for byte in text.as_bytes() {
+        if *byte != b' ' {
+            let pattern = part(alloc, &mut stack, *byte)?;
+            stack.push(pattern)?;
+        }
+    }
+    Ok(stack)
+}
+
+/// What a scanner of the row's patterns finds.
+fn found_among(alloc: Global, row: &PatternRow) -> Result<Option<(usize, u32)>, Fail> {
+    if row.text.len() < row.from {
+        return Err(Fail::new("a place behind the text"));
+    }
+    let patterns = scannable(alloc, read_patterns(alloc, row.patterns)?)?;
+    let scanner = Scanner::build(alloc, &patterns)?;
+    Ok(scanner.longest(row.text, row.from))
+}
+
+#[test]
+fn finds_the_longest_match_of_patterns(rt: HostRuntime) -> Result<(), Fail> {
+    for row in &PATTERN_ROWS {
+        let found = found_among(rt.alloc(), row)?;
+        assert_eq!(rt; found, row.found, "{}", row.name);
+    }
+    Ok(())
+}
+
+/// Patterns, and whether a scanner can be built of them.
+struct ConditionRow {
+    patterns: &'static str,
+    can: bool,
+}
+
+static CONDITIONS: [ConditionRow; 5] = [
+    ConditionRow {
+        patterns: "#*a.",
+        can: true,
+    },
+    ConditionRow {
+        patterns: "",
+        can: true,
+    },
+    ConditionRow {
+        patterns: "a*",
+        can: false,
+    },
+    ConditionRow {
+        patterns: "a b?",
+        can: false,
+    },
+    ConditionRow {
+        patterns: "a*b?.",
+        can: false,
+    },
+];
+
+#[test]
+fn asks_whether_a_pattern_has_the_empty_string(rt: HostRuntime) -> Result<(), Fail> {
+    for row in &CONDITIONS {
+        let patterns = read_patterns(rt.alloc(), row.patterns)?;
+        let can = can_build(rt.alloc(), &patterns)?;
+        assert_eq!(rt; can, row.can, "{}", row.patterns);
+    }
+    Ok(())
+}
+
+/// What a build answered.
+#[derive(Clone, Copy, Debug, PartialEq, Eq)]
+enum Built {
+    Scanner,
+    TooManyStates,
+    NoMemory,
+}
+
+fn try_build(alloc: Global, text: &str) -> Result<Built, Fail> {
+    let patterns = scannable(alloc, read_patterns(alloc, text)?)?;
+    match Scanner::build(alloc, &patterns) {
+        Ok(_) => Ok(Built::Scanner),
+        Err(ScannerFault::TooManyStates) => Ok(Built::TooManyStates),
+        Err(ScannerFault::NoMemory) => Ok(Built::NoMemory),
+    }
+}
+
+#[test]
+fn counts_the_states_of_a_scanner(rt: HostRuntime) -> Result<(), Fail> {
+    let most = try_build(rt.alloc(), "#*a.#.#.#.#.#.#.#.#.#.#.#.#.#.")?;
+    assert_eq!(rt; most, Built::Scanner, "16,385 states");
+    let more = try_build(rt.alloc(), "#*a.#.#.#.#.#.#.#.#.#.#.#.#.#.#.")?;
+    assert_eq!(rt; more, Built::TooManyStates, "32,769 states");
     Ok(())
 }
 

@@ -1,0 +1,4 @@
+pub mod Begins
+pub mod Follows
+pub mod Joints
+pub mod Sets
