@@ -1,0 +1,4 @@
+pub mod Deeds
+pub mod Conflicts
+pub mod Clashes
+pub mod Canonical
