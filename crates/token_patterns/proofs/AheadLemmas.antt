@@ -1,16 +1,12 @@
 -- What comes behind the positions of a set, and which positions read a byte, one position after another.
-use Rattle.std.proofs.Common.{◌≡◌, ℕ, ◌+◌, ◌<◌, ◌≤◌, ◌↔◌, ◌⊎◌, inl, inr, ⊎_elim, false, ◌==◌, ◌||◌, List, length, sym, ◌∙◌, subst, arith}
+use Rattle.std.proofs.Common.{◌≡◌, ℕ, ◌+◌, ◌*◌, ◌<◌, ◌≤◌, ◌↔◌, ◌⊎◌, inl, inr, ⊎_elim, false, ◌==◌, ◌||◌, List, length, sym, ◌∙◌, subst, arith}
 use Rattle.std.specs.Prelude.{slice_get, Some}
 use Rattle.std.proofs.lemmas.Bool.{false≢true, eq-eqb, eqb-true, or_cases, or_left, or_right, cases_lt}
 use Rattle.std.proofs.lemmas.Option.{slice_get_within}
 use Rattle.pattern_data.specs.Bytes.{IsMember}
 use Rattle.position_sets.specs.declared.following.Position.{Position}
 use Rattle.position_sets.specs.Sets.{Has, has_place}
-use Rattle.token_patterns.specs.Ahead.{IsBehindOne, ReadsAt}
-
--- the place comes behind a position of the set, one of the first
-abbrev pub IsBehindOneBelow : List Position → List ℕ → ℕ → ℕ → Type 0
-IsBehindOneBelow positions set bound place = (h : IsBehindOne positions set place) × (h.q < bound)
+use Rattle.token_patterns.specs.Ahead.{IsBehindOne, IsBehindOneBelow, ReadsAt}
 
 -- ---- a set with the places of another, and perhaps one more
 pub marked : (old new : List ℕ) (place : ℕ) (words : List ℕ) (byte : ℕ) → ((other : ℕ) → has_place new other ≡ ((other == place) || has_place old other)) → IsMember words byte
@@ -96,3 +92,25 @@ ahead_all positions set ahead bound all has q = (
   λ h. ((has q).0 h).0,
   λ behind. (has q).1 (behind, let below = slice_get_within positions behind.q behind.row behind.at in omega arith),
 )
+
+-- ---- words of the set without a place, and words behind the last position
+pub behind_below : (positions : List Position) (set : List ℕ) (bound more : ℕ) → bound ≤ more → ((q : ℕ) → bound ≤ q → q < more → Has set q → q < length positions → ⊥) → (q : ℕ) → IsBehindOneBelow positions set bound q ↔ IsBehindOneBelow positions set more q
+behind_below positions set bound more order none q = (
+  λ below. (below.0, let h = below.1 in omega (arith, h, order)),
+  λ below. ⊎_elim
+      (λ less. (below.0, less))
+      (λ upper. absurd (none below.0.q upper below.1 below.0.has (slice_get_within positions below.0.q below.0.row below.0.at)))
+      (cases_lt below.0.q bound),
+)
+
+pub behind_word_none : (positions : List Position) (set ahead : List ℕ) (index : ℕ) → ((place : ℕ) → 64 * index ≤ place → place < 64 * (index + 1) → has_place set place ≡ false)
+    → ((q : ℕ) → Has ahead q ↔ IsBehindOneBelow positions set (64 * index) q) → (q : ℕ) → Has ahead q ↔ IsBehindOneBelow positions set (64 * (index + 1)) q
+behind_word_none positions set ahead index none before q =
+    let same = behind_below positions set (64 * index) (64 * (index + 1)) (omega arith) (λ p from below has within. false≢true (sym (none p from below) ∙ has)) q in
+    (λ has. same.0 ((before q).0 has), λ behind. (before q).1 (same.1 behind))
+
+pub behind_word_all : (positions : List Position) (set ahead : List ℕ) (bound index : ℕ) → bound ≤ 64 * (index + 1) → (bound < 64 * (index + 1) → length positions ≤ bound)
+    → ((q : ℕ) → Has ahead q ↔ IsBehindOneBelow positions set bound q) → (q : ℕ) → Has ahead q ↔ IsBehindOneBelow positions set (64 * (index + 1)) q
+behind_word_all positions set ahead bound index order ended before q =
+    let same = behind_below positions set bound (64 * (index + 1)) order (λ p from below has within. let e = ended (omega (arith, from, below)) in omega (arith, e, from, within)) q in
+    (λ has. same.0 ((before q).0 has), λ behind. (before q).1 (same.1 behind))

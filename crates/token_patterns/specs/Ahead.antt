@@ -12,6 +12,10 @@ pub record IsBehindOne (positions : List Position) (set : List ℕ) (place : ℕ
   pub has : Has set q
   pub next : Has row.next.items place
 
+-- the place comes behind a position of the set, one of the first so many
+abbrev pub IsBehindOneBelow : List Position → List ℕ → ℕ → ℕ → Type 0
+IsBehindOneBelow positions set bound place = (h : IsBehindOne positions set place) × (h.q < bound)
+
 -- the position reads the byte
 pub record ReadsAt (positions : List Position) (byte q : ℕ) : Type 0 where
   pub row : Position

@@ -1,8 +1,8 @@
 //! What comes behind a set of positions.
-ghost use Rattle.std.specs.Prelude.{◌≡◌, ℕ, ◌+◌, ◌<◌, ◌≤◌, ◌↔◌, ◌⊎◌, length, slice_get, Some, IfOk};
+ghost use Rattle.std.specs.Prelude.{◌≡◌, ℕ, ◌+◌, ◌*◌, ◌<◌, ◌≤◌, ◌↔◌, ◌⊎◌, false, length, slice_get, Some, IfOk};
 ghost use Rattle.position_sets.specs.declared.following.Position.{Position as Row};
-ghost use Rattle.position_sets.specs.Sets.{Has, IsSetOfWords};
-ghost use Rattle.token_patterns.specs.Ahead.{IsBehindOne, IsFirstRank};
+ghost use Rattle.position_sets.specs.Sets.{Has, IsSetOfWords, has_place};
+ghost use Rattle.token_patterns.specs.Ahead.{IsBehindOne, IsBehindOneBelow, IsFirstRank};
 
 use position_sets::{Position, has, no_places, union};
 use std::alloc::{AllocError, Global};
@@ -10,7 +10,11 @@ use std::alloc::{AllocError, Global};
 /// The number that says that no pattern ends.
 pub const NO_RANK: u16 = u16::MAX;
 
-/// The places that come behind a position of the set.
+/// How many places a word of a set has.
+const WORD_PLACES: usize = 64;
+
+/// The places that come behind a position of the set. Words of the set without a place are passed over, so that this
+/// costs by the set's places.
 pub fn ahead_of(
     alloc: Global,
     positions: &[Position],
@@ -22,10 +26,45 @@ pub fn ahead_of(
     ensures set { IfOk result (λ ahead. IsSetOfWords size ahead.items) }
 {
     let mut ahead = no_places(alloc, size)?;
-    for (place, position) in positions.iter().enumerate() {
-        add_behind(&mut ahead, set, place, position);
+    for index in 0..positions.len() / WORD_PLACES + 1 {
+        add_behind_word(&mut ahead, positions, set, index, size);
     }
     Ok(ahead)
+}
+
+/// Whether a word of the set has a place.
+fn has_some(set: &[u64], index: usize) -> bool
+    ensures { result ≡ false → (place : ℕ) → 64 * index ≤ place → place < 64 * (index + 1) → has_place set.now place ≡ false }
+{
+    match set.get(index) {
+        Some(word) => *word != 0,
+        None => false,
+    }
+}
+
+/// Adds what comes behind those positions whose places are in one word of the set.
+fn add_behind_word(
+    ahead: &mut Vec<u64>,
+    positions: &[Position],
+    set: &[u64],
+    index: usize,
+    size: usize,
+)
+    requires rows { (q : ℕ) (row : Row) → slice_get positions.now q ≡ Some row → IsSetOfWords size row.next.items }
+    requires set { IsSetOfWords size ahead.old.items }
+    requires begins { 64 * index ≤ length positions.now }
+    requires before { (q : ℕ) → Has ahead.old.items q ↔ IsBehindOneBelow positions.now set.now (64 * index) q }
+    ensures places { (q : ℕ) → Has ahead.new.items q ↔ IsBehindOneBelow positions.now set.now (64 * (index + 1)) q }
+    ensures set { IsSetOfWords size ahead.new.items }
+{
+    if !has_some(set, index) {
+        return;
+    }
+    let from = WORD_PLACES * index;
+    let to = positions.len().min(from + WORD_PLACES);
+    for place in from..to {
+        add_behind(ahead, set, place, &positions[place]);
+    }
 }
 
 /// Adds what comes behind a position, where its place is in the set.
