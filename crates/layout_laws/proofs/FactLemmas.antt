@@ -1,12 +1,15 @@
 -- What holds of an outline without faults, and of its sheet.
-use Rattle.std.proofs.Common.{◌≡◌, ℕ, suc, ◌≤◌, List, [], ◌∷◌, ◌++◌, length, map, Bool, true, false, cond, refl, sym, ap, subst, ◌∙◌, inl, inr, ⊎_elim, arith}
-use Rattle.std.specs.Prelude.{◌⊎◌, All, Contains, nat_lt, not, filter, Option, Some, None}
+use Rattle.std.proofs.Common.{◌≡◌, ◌≢◌, ℕ, suc, ◌≤◌, List, [], ◌∷◌, ◌++◌, length, map, Bool, true, false, cond, refl, sym, ap, subst, ◌∙◌, inl, inr, ⊎_elim, arith}
+use Rattle.std.specs.Prelude.{◌⊎◌, ◌||◌, All, Contains, nat_lt, not, filter, Option, Some, None}
 use Rattle.std.specs.List.{flat_map}
+use Rattle.std.specs.Str.{bytes_eq}
 use Rattle.std.proofs.lemmas.Bool.{false≢true, ltb-false, ltb-true}
 use Rattle.std.proofs.lemmas.List.{length-map}
-use Rattle.std.proofs.lemmas.List.Elements.{All-nil, All-cons, All-weaker, All-contains, All-contains_itself, Contains-append_cases}
+use Rattle.std.proofs.lemmas.List.Elements.{All-nil, All-cons, All-weaker, All-contains, All-contains_itself, Contains-append_right, Contains-append_cases}
 use Rattle.std.proofs.lemmas.Option.{none-some}
 use Rattle.grammar_data.specs.Grammar.{Rule}
+use Rattle.pattern_data.specs.declared.pattern.Pattern.{Pattern}
+use Rattle.pattern_data.specs.Spellings.{IsSpelling}
 use Rattle.sheet_data.specs.Sheet.{Sheet}
 use Rattle.sheet_data.specs.declared.parts.Decl.{Decl}
 use Rattle.sheet_data.specs.declared.parts.Decl.TheVariants.{Literal as literal_decl, Matched as matched_decl, Skip as skip_decl}
@@ -23,16 +26,16 @@ use Rattle.outline_data.specs.AlternativeParts.{AlternativeParts}
 use Rattle.outline_data.specs.GroupParts.{GroupParts}
 use Rattle.outline_data.specs.Parts.{OutlineParts}
 use Rattle.outline_theory.specs.Spelling.{Kept, bare, single, spelled_declaration, spelled_alternative, spelled_sides, spelled_group, spelled_rest, spelled_outline}
-use Rattle.outline_theory.specs.Words.{texts, token_in, token_words, literal_in, literal_words, left_words, alternatives_of, name_in, quoted_in, side_literals}
+use Rattle.outline_theory.specs.Words.{texts, token_in, token_words, literal_in, literal_words, pattern_in, left_words, alternatives_of, name_in, quoted_in, side_literals}
 use Rattle.outline_theory.specs.LineFaults.{StandsAgain}
-use Rattle.outline_theory.specs.LineFaults.HasLineFault.{name_again, unknown_name}
+use Rattle.outline_theory.specs.LineFaults.HasLineFault.{empty_literal, name_again, unknown_name}
 use Rattle.outline_theory.specs.Numbering.{is_one_of, unnamed_literals, literal_of_token, grammar_names, lists_of, symbol_by, AreDecls, IsSheetOf}
-use Rattle.outline_theory.specs.Numbering.AreDecls.{no_decl, literal_first, start_first}
+use Rattle.outline_theory.specs.Numbering.AreDecls.{no_decl, literal_first, matched_first, skip_first, start_first}
 use Rattle.outline_theory.specs.Limits.{Measure, long_side, measures, first_passed}
 use Rattle.outline_theory.specs.Reading.{IsFaultless}
 use Rattle.layout_laws.proofs.WordLemmas.{IsName}
 use Rattle.layout_laws.proofs.GoodLemmas.{AreGood, good_left, good_right}
-use Rattle.layout_laws.proofs.MemberLemmas.{no_member, only_member, one_member, joined_has, joined_from, mapped_has, mapped_from, IsRepeated, IsAgain, keys_again}
+use Rattle.layout_laws.proofs.MemberLemmas.{no_member, only_member, one_member, first_member, later_member, joined_has, joined_from, mapped_has, mapped_from, IsRepeated, IsAgain, keys_again}
 use Rattle.layout_laws.proofs.IndexLemmas.{Words, Test, one_of, contains, one_or_not, one_of_filter, one_of_distinct}
 use Rattle.layout_laws.proofs.SideLemmas.{Side, sides_by, sides_in, rule_at, sides_rules}
 
@@ -41,28 +44,102 @@ use Rattle.layout_laws.proofs.SideLemmas.{Side, sides_by, sides_in, rule_at, sid
 abbrev pub decl_literals : List Decl → Words
 decl_literals [] = []
 decl_literals (literal_decl name bytes ∷ decls) = bytes ∷ decl_literals decls
-decl_literals (matched_decl name pattern ∷ decls) = [] ∷ decl_literals decls
+decl_literals (matched_decl name pattern ∷ decls) = decl_literals decls
 decl_literals (skip_decl pattern ∷ decls) = decl_literals decls
+
+-- by the tokens' numbers: none for a token that has a pattern
+abbrev pub decl_token_literals : List Decl → Words
+decl_token_literals [] = []
+decl_token_literals (literal_decl name bytes ∷ decls) = bytes ∷ decl_token_literals decls
+decl_token_literals (matched_decl name pattern ∷ decls) = [] ∷ decl_token_literals decls
+decl_token_literals (skip_decl pattern ∷ decls) = decl_token_literals decls
+
+no_match : (word : List ℕ) → word ≢ [] → bytes_eq [] word ≡ false
+no_match [] some = absurd (some refl)
+no_match (byte ∷ word) some = refl
 
 pub decls_names : {ds : List Declaration} {decls : List Decl} → AreDecls ds decls → declared_names decls ≡ texts (flat_map token_in ds)
 decls_names no_decl = refl
 decls_names (literal_first {name = name} are is) = ap declared_names is ∙ ap (λ l. name.bytes ∷ l) (decls_names are)
+decls_names (matched_first {name = name} spelled are is) = ap declared_names is ∙ ap (λ l. name.bytes ∷ l) (decls_names are)
+decls_names (skip_first spelled are is) = ap declared_names is ∙ decls_names are
 decls_names (start_first are) = decls_names are
 
 pub decls_literals : {ds : List Declaration} {decls : List Decl} → AreDecls ds decls → decl_literals decls ≡ texts (flat_map literal_in ds)
 decls_literals no_decl = refl
 decls_literals (literal_first {literal = literal} are is) = ap decl_literals is ∙ ap (λ l. literal.bytes ∷ l) (decls_literals are)
+decls_literals (matched_first spelled are is) = ap decl_literals is ∙ decls_literals are
+decls_literals (skip_first spelled are is) = ap decl_literals is ∙ decls_literals are
 decls_literals (start_first are) = decls_literals are
 
-pub decls_token_literals : {ds : List Declaration} {decls : List Decl} → AreDecls ds decls → decl_literals decls ≡ flat_map literal_of_token ds
+pub decls_token_literals : {ds : List Declaration} {decls : List Decl} → AreDecls ds decls → decl_token_literals decls ≡ flat_map literal_of_token ds
 decls_token_literals no_decl = refl
-decls_token_literals (literal_first {literal = literal} are is) = ap decl_literals is ∙ ap (λ l. literal.bytes ∷ l) (decls_token_literals are)
+decls_token_literals (literal_first {literal = literal} are is) = ap decl_token_literals is ∙ ap (λ l. literal.bytes ∷ l) (decls_token_literals are)
+decls_token_literals (matched_first spelled are is) = ap decl_token_literals is ∙ ap (λ l. [] ∷ l) (decls_token_literals are)
+decls_token_literals (skip_first spelled are is) = ap decl_token_literals is ∙ decls_token_literals are
 decls_token_literals (start_first are) = decls_token_literals are
 
-pub decls_sizes : {ds : List Declaration} {decls : List Decl} → AreDecls ds decls → length (texts (flat_map literal_in ds)) ≡ length (texts (flat_map token_in ds))
-decls_sizes no_decl = refl
-decls_sizes (literal_first are is) = ap suc (decls_sizes are)
-decls_sizes (start_first are) = decls_sizes are
+pub decls_sizes : (ds : List Declaration) → length (flat_map literal_of_token ds) ≡ length (texts (flat_map token_in ds))
+decls_sizes [] = refl
+decls_sizes (Literal name literal ∷ ds) = ap suc (decls_sizes ds)
+decls_sizes (Matched name pattern ∷ ds) = ap suc (decls_sizes ds)
+decls_sizes (Skip pattern ∷ ds) = decls_sizes ds
+decls_sizes (Start line name ∷ ds) = decls_sizes ds
+
+-- a text that isn't empty is a token's literal exactly where a declaration names it
+pub decls_named : (ds : List Declaration) (word : List ℕ) → word ≢ [] → is_one_of (flat_map literal_of_token ds) word ≡ is_one_of (texts (flat_map literal_in ds)) word
+decls_named [] word some = refl
+decls_named (Literal name literal ∷ ds) word some = ap (λ b. bytes_eq literal.bytes word || b) (decls_named ds word some)
+decls_named (Matched name pattern ∷ ds) word some =
+    ap (λ b. b || is_one_of (flat_map literal_of_token ds) word) (no_match word some) ∙ decls_named ds word some
+decls_named (Skip pattern ∷ ds) word some = decls_named ds word some
+decls_named (Start line name ∷ ds) word some = decls_named ds word some
+
+-- the patterns of declarations, and the words that spell them
+abbrev pub decl_patterns : List Decl → List Pattern
+decl_patterns [] = []
+decl_patterns (literal_decl name bytes ∷ decls) = decl_patterns decls
+decl_patterns (matched_decl name pattern ∷ decls) = pattern ∷ decl_patterns decls
+decl_patterns (skip_decl pattern ∷ decls) = pattern ∷ decl_patterns decls
+
+pub data AreSpelled : List Word → List Pattern → Type 0 where
+  none_spelled : AreSpelled [] []
+  next_spelled : {word : Word} {pattern : Pattern} {words : List Word} {patterns : List Pattern} → IsSpelling word.bytes pattern → AreSpelled words patterns → AreSpelled (word ∷ words) (pattern ∷ patterns)
+
+with_patterns : (words : List Word) (one other : List Decl) → one ≡ other → AreSpelled words (decl_patterns other) → AreSpelled words (decl_patterns one)
+with_patterns words one other e h = subst (λ l. AreSpelled words (decl_patterns l)) (sym e) h
+
+pub decls_spelled : {ds : List Declaration} {decls : List Decl} → AreDecls ds decls → AreSpelled (flat_map pattern_in ds) (decl_patterns decls)
+decls_spelled no_decl = none_spelled
+decls_spelled (literal_first {declarations = ds} {all = all} are is) = with_patterns (flat_map pattern_in ds) all _ is (decls_spelled are)
+decls_spelled (matched_first {word = word} {declarations = ds} {all = all} spelled are is) = with_patterns (word ∷ flat_map pattern_in ds) all _ is (next_spelled spelled (decls_spelled are))
+decls_spelled (skip_first {word = word} {declarations = ds} {all = all} spelled are is) = with_patterns (word ∷ flat_map pattern_in ds) all _ is (next_spelled spelled (decls_spelled are))
+decls_spelled (start_first are) = decls_spelled are
+
+-- the pattern that a word spells, and a word that spells a pattern
+pub record PatternOf (patterns : List Pattern) (word : Word) : Type 0 where
+  pub pattern : Pattern
+  pub stands : Contains patterns pattern
+  pub spelled : IsSpelling word.bytes pattern
+
+pub pattern_of : {words : List Word} {patterns : List Pattern} → AreSpelled words patterns → (word : Word) → Contains words word → PatternOf patterns word
+pattern_of none_spelled word h = absurd (no_member word h)
+pattern_of (next_spelled {word = first} {pattern = pattern} {words = words} {patterns = patterns} spelled rest) word h = elim (Contains-append_cases (first ∷ []) words word h) [
+  | inl here ↦ record { pattern = pattern; stands = first_member pattern patterns; spelled = subst (λ (w : Word). IsSpelling w.bytes pattern) (only_member first word here) spelled }
+  | inr later ↦ let found = pattern_of rest word later in record { pattern = found.pattern; stands = later_member pattern patterns found.pattern found.stands; spelled = found.spelled }
+]
+
+pub record SpellingOf (words : List Word) (pattern : Pattern) : Type 0 where
+  pub word : Word
+  pub stands : Contains words word
+  pub spelled : IsSpelling word.bytes pattern
+
+pub spelling_of : {words : List Word} {patterns : List Pattern} → AreSpelled words patterns → (pattern : Pattern) → Contains patterns pattern → SpellingOf words pattern
+spelling_of none_spelled pattern h = absurd (no_member pattern h)
+spelling_of (next_spelled {word = word} {pattern = first} {words = words} {patterns = patterns} spelled rest) pattern h = elim (Contains-append_cases (first ∷ []) patterns pattern h) [
+  | inl here ↦ record { word = word; stands = first_member word words; spelled = subst (IsSpelling word.bytes) (only_member first pattern here) spelled }
+  | inr later ↦ let found = spelling_of rest pattern later in record { word = found.word; stands = later_member word words found.word found.stands; spelled = found.spelled }
+]
 
 token_names_good : (ds : List Declaration) → AreGood (flat_map spelled_declaration ds) → All (λ (w : Word). IsName w.bytes) (flat_map token_in ds)
 token_names_good [] h = All-nil (λ (w : Word). IsName w.bytes)
@@ -110,10 +187,10 @@ sides_short sheet e = all_short sheet.grammar.rules (sheet_short_at sheet e)
 
 -- ---- symbols
 
--- a name is a token's or has a rule, and a literal has a name or is numbered behind the tokens
+-- a name is a token's or has a rule, and a literal isn't empty, and has a name or is numbered behind the tokens
 abbrev pub IsKnown : OutlineParts → Symbol → Type 0
 IsKnown o (Name word) = (is_one_of (texts (token_words o)) word.bytes ≡ true) ⊎ ((is_one_of (texts (token_words o)) word.bytes ≡ false) × (is_one_of (grammar_names o) word.bytes ≡ true))
-IsKnown o (Quoted word) = (is_one_of (texts (literal_words o)) word.bytes ≡ true) ⊎ ((is_one_of (texts (literal_words o)) word.bytes ≡ false) × (is_one_of (unnamed_literals o) word.bytes ≡ true))
+IsKnown o (Quoted word) = (word.bytes ≢ []) × ((is_one_of (texts (literal_words o)) word.bytes ≡ true) ⊎ ((is_one_of (texts (literal_words o)) word.bytes ≡ false) × (is_one_of (unnamed_literals o) word.bytes ≡ true)))
 
 -- what holds of a rule of the outline
 pub record IsFine (o : OutlineParts) (side : Side) : Type 0 where
@@ -166,10 +243,11 @@ module _ (o : OutlineParts) (faultless : IsFaultless o) where
       one_of_distinct (filter p (texts (side_literals o))) word.bytes ∙ one_of_filter p (texts (side_literals o)) word.bytes (ap not none) ∙ one_of (texts (side_literals o)) word.bytes (mapped_has (λ (w : Word). w.bytes) (side_literals o) word has)
 
   quoted_known : (a : AlternativeParts) (word : Word) → Contains (alternatives_of o) a → Contains a.right (Quoted word) → IsKnown o (Quoted word)
-  quoted_known a word stands has = ⊎_elim
-      (λ named. inl named)
-      (λ none. inr (none, unnamed_known word (joined_has (λ (b : AlternativeParts). flat_map quoted_in b.right) (alternatives_of o) a word stands (joined_has quoted_in a.right (Quoted word) word has (one_member word))) none))
-      (one_or_not (texts (literal_words o)) word.bytes)
+  quoted_known a word stands has =
+      let used : Contains (side_literals o) word = joined_has (λ (b : AlternativeParts). flat_map quoted_in b.right) (alternatives_of o) a word stands (joined_has quoted_in a.right (Quoted word) word has (one_member word)) in (
+        λ none. faultless.none _ (empty_literal {word = word} (Contains-append_right (literal_words o) (side_literals o) word used) none),
+        ⊎_elim (λ named. inl named) (λ none. inr (none, unnamed_known word used none)) (one_or_not (texts (literal_words o)) word.bytes),
+      )
 
   symbol_known : (a : AlternativeParts) → Contains (alternatives_of o) a → (s : Symbol) → Contains a.right s → IsKnown o s
   symbol_known a stands (Name word) has = name_known a word stands has

@@ -4,6 +4,10 @@ use Rattle.std.specs.Prelude.{◌⊎◌, Some, slice_get, Contains}
 use Rattle.std.specs.List.{flat_map}
 use Rattle.std.proofs.lemmas.List.Elements.{Contains-append_left, Contains-append_right, Contains-append_cases}
 use Rattle.std.proofs.lemmas.Option.{none-some}
+use Rattle.pattern_data.specs.declared.pattern.Pattern.{Pattern}
+use Rattle.pattern_data.specs.Language.{Matches}
+use Rattle.pattern_data.specs.Spellings.{IsSpelling}
+use Rattle.pattern_data.proofs.RoundLemmas.{spelling_once}
 use Rattle.sheet_data.specs.Sheet.{Sheet}
 use Rattle.outline_data.specs.declared.fault.SheetFault.{SheetFault}
 use Rattle.outline_data.specs.declared.outline.Word.{Word}
@@ -13,20 +17,20 @@ use Rattle.outline_data.specs.declared.rules.Symbol.TheVariants.{Name}
 use Rattle.outline_data.specs.AlternativeParts.{AlternativeParts}
 use Rattle.outline_data.specs.Parts.{OutlineParts}
 use Rattle.outline_theory.specs.Spelling.{IsShaped}
-use Rattle.outline_theory.specs.Words.{texts, token_words, literal_words, StartUse, starts, left_words, alternatives_of, name_in, side_names, quoted_in, side_literals, all_literals, template_uses, token_uses, all_uses, places}
+use Rattle.outline_theory.specs.Words.{texts, token_words, literal_words, pattern_words, StartUse, starts, left_words, alternatives_of, name_in, side_names, quoted_in, side_literals, all_literals, template_uses, token_uses, all_uses, places}
 use Rattle.outline_theory.specs.LineFaults.{IsTokenName, HasRule, StandsAgain, IsUsedAgain, IsOutOfRange, IsNameAt, HasLineFault}
-use Rattle.outline_theory.specs.LineFaults.HasLineFault.{line_feed, empty_literal, name_again, literal_again, start_again, left_is_token, unknown_name, unknown_start, out_of_range, twice_in_template, twice_in_marks, not_a_token}
+use Rattle.outline_theory.specs.LineFaults.HasLineFault.{line_feed, no_spelling, empty_literal, empty_pattern, name_again, literal_again, start_again, left_is_token, unknown_name, unknown_start, out_of_range, twice_in_template, twice_in_marks, not_a_token}
 use Rattle.outline_theory.specs.Numbering.{is_one_of}
 use Rattle.outline_theory.specs.Reading.{IsFaultless}
 use Rattle.layout_laws.proofs.MemberLemmas.{only_member, one_member, joined_has, joined_from, mapped_has, Mapped, mapped_from, IsRepeated, IsAgain, again_keys, keys_again}
 use Rattle.layout_laws.proofs.IndexLemmas.{contains}
 use Rattle.layout_laws.proofs.SideLemmas.{Side, sides_in, sides_alternatives}
-use Rattle.layout_laws.proofs.FactLemmas.{stands_again, texts_again, rule_known, known_rule, tokens_once}
+use Rattle.layout_laws.proofs.FactLemmas.{decl_patterns, AreSpelled, decls_spelled, pattern_of, spelling_of, stands_again, texts_again, rule_known, known_rule, tokens_once}
 use Rattle.layout_laws.proofs.SymbolLemmas.{IsSound, IsPrinted}
 use Rattle.layout_laws.proofs.SymbolLemmas.IsPrinted.{same_name, same_literal, named_literal}
 use Rattle.layout_laws.proofs.RuleLemmas.{IsPrintedSide}
 use Rattle.layout_laws.proofs.LayoutLemmas.{LayoutRead}
-use Rattle.layout_laws.proofs.SameLemmas.{texts_append, printed_length, printed, tokens_same, literals_same, starts_are, alternatives_are, names_same}
+use Rattle.layout_laws.proofs.SameLemmas.{texts_append, printed_length, printed, decls, tokens_same, literals_same, starts_are, alternatives_are, names_same}
 use Rattle.layout_laws.proofs.PlaceLemmas.{symbol_from, symbol_at, side_from, places_append, template_place, template_again, token_places_same}
 
 abbrev bytes_of : Word → List ℕ
@@ -118,6 +122,23 @@ module _ (o : OutlineParts) (shaped : IsShaped o) (faultless : IsFaultless o) (s
   literals_fine word h =
       let there = literal_there word h in
       (λ feed. faultless.none _ (line_feed there.stands (subst (λ b. Contains b 10) (sym there.is) feed)), λ none. faultless.none _ (empty_literal there.stands (there.is ∙ none)))
+
+  -- patterns: each word of the layout spells one that a word of the sheet spells
+  spelled_there : AreSpelled (pattern_words o) (decl_patterns sheet.decls)
+  spelled_there = decls_spelled sound.says.decls
+
+  spelled_here : AreSpelled (pattern_words p) (decl_patterns sheet.decls)
+  spelled_here = decls_spelled (decls o shaped sheet sound r)
+
+  no_bad_spelling : (word : Word) → Contains (pattern_words p) word → ((pattern : Pattern) → IsSpelling word.bytes pattern → ⊥) → ⊥
+  no_bad_spelling word h none = let found = pattern_of spelled_here word h in none found.pattern found.spelled
+
+  no_empty_pattern : (word : Word) (pattern : Pattern) → Contains (pattern_words p) word → IsSpelling word.bytes pattern → Matches pattern [] → ⊥
+  no_empty_pattern word pattern h spelled empty =
+      let found = pattern_of spelled_here word h in
+      let same : found.pattern ≡ pattern = spelling_once word.bytes found.pattern pattern found.spelled spelled in
+      let there = spelling_of spelled_there found.pattern found.stands in
+      faultless.none _ (empty_pattern there.stands there.spelled (subst (λ q. Matches q []) (sym same) empty))
 
   -- words that stand again
   no_name_again : (word : Word) → StandsAgain (token_words p) word → ⊥
@@ -223,6 +244,8 @@ module _ (o : OutlineParts) (shaped : IsShaped o) (faultless : IsFaultless o) (s
 
   pub no_fault : (fault : SheetFault) → HasLineFault p fault → ⊥
   no_fault fault (line_feed {word = word} h feed) = (literals_fine word h).0 feed
+  no_fault fault (no_spelling {word = word} h none) = no_bad_spelling word h none
+  no_fault fault (empty_pattern {word = word} {pattern = pattern} h spelled empty) = no_empty_pattern word pattern h spelled empty
   no_fault fault (empty_literal {word = word} h none) = (literals_fine word h).1 none
   no_fault fault (name_again {word = word} h) = no_name_again word h
   no_fault fault (literal_again {word = word} h) = no_literal_again word h

@@ -16,7 +16,6 @@ use Rattle.outline_data.specs.GroupParts.{GroupParts}
 use Rattle.outline_data.specs.Parts.{OutlineParts}
 use Rattle.outline_theory.specs.Spelling.{Kept, bare, named, spelled_declaration, spelled_group, spelled_outline}
 use Rattle.outline_theory.specs.Words.{texts, StartUse, starts, start_in}
-use Rattle.outline_theory.specs.Outlines.{IsPlainDeclaration}
 use Rattle.outline_theory.specs.LineFaults.HasLineFault.{unknown_start}
 use Rattle.outline_theory.specs.Numbering.{is_one_of, index_of, distinct, grammar_names, lists_of, start_by, template_of, declares_of, AreDecls}
 use Rattle.outline_theory.specs.Layout.{line_text, symbol_text, decl_words, rule_words, rule_lines, layout_lines, layout}
@@ -49,7 +48,6 @@ pub record LayoutRead (o : OutlineParts) (sheet : Sheet) : Type 0 where
   pub start : Word
   pub sides : List Side
   pub are : AreDecls declared sheet.decls
-  pub plain : All IsPlainDeclaration declared
   pub no_start : flat_map start_in declared ≡ []
   pub starts : start.bytes ≡ start_of.word
   pub printed : ArePrintedSides o (sides_in o.groups) sides
@@ -150,7 +148,6 @@ module _ (o : OutlineParts) (faultless : IsFaultless o) (sheet : Sheet) (sound :
         start = start;
         sides = sides.printed;
         are = decls.are;
-        plain = decls.plain;
         no_start = decls.no_start;
         starts = refl;
         printed = sides.are;

@@ -2,6 +2,7 @@ pub mod StandLemmas
 pub mod TextLemmas
 pub mod NumberLemmas
 pub mod WordLemmas
+pub mod PatternLemmas
 pub mod LaidLemmas
 pub mod GoodLemmas
 pub mod MemberLemmas

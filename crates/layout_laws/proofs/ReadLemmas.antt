@@ -1,22 +1,20 @@
 -- The normal layout of a sheet reads as this sheet.
-use Rattle.std.proofs.Common.{◌≢◌, ℕ, ◌≤◌, List, [], ◌∷◌, ◌++◌, length, map, refl, sym, ap, subst, ◌∙◌}
+use Rattle.std.proofs.Common.{◌≢◌, ℕ, ◌≤◌, List, [], ◌∷◌, length, map, refl, ap, subst, ◌∙◌}
 use Rattle.std.specs.Prelude.{All, Contains}
-use Rattle.std.proofs.lemmas.List.Elements.{All-nil, All-cons, All-append}
+use Rattle.std.proofs.lemmas.List.Elements.{All-nil, All-cons}
 use Rattle.sheet_data.specs.Sheet.{Sheet}
-use Rattle.outline_data.specs.declared.outline.Declaration.TheVariants.{Start}
 use Rattle.outline_data.specs.GroupParts.{GroupParts}
 use Rattle.outline_data.specs.Parts.{OutlineParts}
 use Rattle.outline_theory.specs.Spelling.{spelled_outline, IsShaped}
 use Rattle.outline_theory.specs.Words.{texts, left_words}
-use Rattle.outline_theory.specs.Outlines.{IsPlainDeclaration, IsPlain}
-use Rattle.outline_theory.specs.Numbering.{is_one_of, unnamed_literals, IsSheetOf}
+use Rattle.outline_theory.specs.Numbering.{is_one_of, IsSheetOf}
 use Rattle.outline_theory.specs.Layout.{layout}
 use Rattle.outline_theory.specs.Reading.{IsFaultless, Reads}
 use Rattle.layout_laws.proofs.WordLemmas.{AreBytes}
 use Rattle.layout_laws.proofs.GoodLemmas.{AreGood, reading_good}
 use Rattle.layout_laws.proofs.MemberLemmas.{no_member}
 use Rattle.layout_laws.proofs.SideLemmas.{Side, group_of, groups_of}
-use Rattle.layout_laws.proofs.FactLemmas.{decls_names, decls_literals, decls_token_literals, decls_sizes, known_rule, tokens_once, tokens_named, all_fine}
+use Rattle.layout_laws.proofs.FactLemmas.{decls_names, decls_sizes, decls_named, known_rule, tokens_once, tokens_named, all_fine}
 use Rattle.layout_laws.proofs.SymbolLemmas.{IsSound}
 use Rattle.layout_laws.proofs.LayoutLemmas.{LayoutRead, layout_read}
 use Rattle.layout_laws.proofs.SameLemmas.{printed, names_same, same_sheet}
@@ -26,8 +24,8 @@ sound_of : (o : OutlineParts) (sheet : Sheet) → IsFaultless o → AreGood (spe
 sound_of o sheet faultless good says = record {
   says = says;
   tokens = decls_names says.decls;
-  literals = ap (λ l. l ++ unnamed_literals o) (sym (decls_token_literals says.decls) ∙ decls_literals says.decls);
-  size = decls_sizes says.decls;
+  size = decls_sizes o.declarations;
+  declared = decls_named o.declarations;
   once = tokens_once o faultless;
   named = tokens_named o faultless good;
 }
@@ -39,9 +37,6 @@ groups_shaped (side ∷ sides) = All-cons (λ (g : GroupParts). g.alternatives �
 module _ (o : OutlineParts) (shaped : IsShaped o) (sheet : Sheet) (sound : IsSound o sheet) (r : LayoutRead o sheet) where
   abbrev p : OutlineParts
   p = printed o shaped sheet sound r
-
-  plain : IsPlain p
-  plain = All-append IsPlainDeclaration r.declared (Start r.line r.start ∷ []) r.plain (All-cons IsPlainDeclaration (Start r.line r.start) [] tt (All-nil IsPlainDeclaration))
 
   has_rules : p.groups ≢ []
   has_rules none =
@@ -68,7 +63,6 @@ layout_reads bytes sheet small reads size =
           shaped = groups_shaped r.sides;
           ended = refl;
         };
-        plain = plain o shaped sheet sound r;
       };
       faultless = record { rules = has_rules o shaped sheet sound r; none = no_fault o shaped reads.faultless sheet sound r };
       says = same_sheet o shaped sheet sound r;

@@ -3,32 +3,34 @@ use Rattle.std.proofs.Common.{◌≡◌, ℕ, zero, suc, ◌+◌, ◌<◌, ◌�
 use Rattle.std.specs.Prelude.{All, Option, Some, None, codes}
 use Rattle.std.specs.List.{flat_map, range_with_len}
 use Rattle.std.specs.Fmt.{decimal}
-use Rattle.std.proofs.lemmas.List.Elements.{All-head, All-tail, All-nil, All-cons}
+use Rattle.std.proofs.lemmas.List.Elements.{All-head, All-tail}
 use Rattle.grammar_data.specs.declared.rule.Sym.TheVariants.{Name as name_symbol}
+use Rattle.pattern_data.specs.Printing.{normal_spelling}
+use Rattle.pattern_data.proofs.RoundLemmas.{normal_spells}
 use Rattle.sheet_data.specs.Sheet.{Sheet}
 use Rattle.sheet_data.specs.declared.parts.Decl.{Decl}
 use Rattle.sheet_data.specs.declared.parts.Part.{Part}
 use Rattle.sheet_data.specs.declared.parts.Part.TheVariants.{Text as text_of, Fold as fold_of, Number as number_of}
 use Rattle.sheet_theory.specs.Names.{quote, double_quote, escaped}
-use Rattle.lexeme_theory.specs.declared.lexeme.Lexeme.TheVariants.{Name as name_lexeme, Number as number_lexeme, Fold as fold_lexeme, NumberOf as number_of_lexeme, Quoted as quoted_lexeme, Text as text_lexeme, Directive as directive_lexeme, Single as single_lexeme}
-use Rattle.lexeme_theory.specs.declared.lexeme.Directive.TheVariants.{Token, Declares}
+use Rattle.lexeme_theory.specs.declared.lexeme.Lexeme.TheVariants.{Name as name_lexeme, Number as number_lexeme, Fold as fold_lexeme, NumberOf as number_of_lexeme, Quoted as quoted_lexeme, Text as text_lexeme, Pattern as pattern_lexeme, Directive as directive_lexeme, Single as single_lexeme}
+use Rattle.lexeme_theory.specs.declared.lexeme.Directive.TheVariants.{Token, Skip as skip_directive, Declares}
 use Rattle.lexeme_theory.specs.declared.lexeme.Single.TheVariants.{Colon, Semicolon, LeftBrace, RightBrace}
 use Rattle.outline_data.specs.declared.outline.Word.{Word}
 use Rattle.outline_data.specs.declared.outline.PlaceUse.{PlaceUse}
 use Rattle.outline_data.specs.declared.outline.Declaration.{Declaration}
-use Rattle.outline_data.specs.declared.outline.Declaration.TheVariants.{Literal}
+use Rattle.outline_data.specs.declared.outline.Declaration.TheVariants.{Literal, Matched, Skip}
 use Rattle.outline_data.specs.declared.rules.TemplatePart.{TemplatePart}
 use Rattle.outline_data.specs.declared.rules.TemplatePart.TheVariants.{Text, Fold, Number}
 use Rattle.outline_data.specs.AlternativeParts.{AlternativeParts}
 use Rattle.outline_data.specs.Parts.{OutlineParts}
 use Rattle.outline_theory.specs.Spelling.{Kept, single, named, spelled_declaration, spelled_symbol, spelled_part, spelled_template, spelled_mark, spelled_group}
 use Rattle.outline_theory.specs.Words.{start_in, places}
-use Rattle.outline_theory.specs.Outlines.{IsPlainDeclaration}
 use Rattle.outline_theory.specs.Numbering.{index_of, grammar_names, lists_of, symbol_by, part_of, template_by, template_of, declares_of, AreDecls}
-use Rattle.outline_theory.specs.Numbering.AreDecls.{no_decl, literal_first, start_first}
-use Rattle.outline_theory.specs.Layout.{symbol_text, part_text, mark_words, rule_words, decl_words}
+use Rattle.outline_theory.specs.Numbering.AreDecls.{no_decl, literal_first, matched_first, skip_first, start_first}
+use Rattle.outline_theory.specs.Layout.{symbol_text, part_text, mark_words, rule_words, pattern_text, decl_words}
 use Rattle.layout_laws.proofs.WordLemmas.{AreBytes}
-use Rattle.layout_laws.proofs.WordLemmas.Prints.{name_printed, number_printed, fold_printed, number_of_printed, quoted_printed, text_printed, directive_printed, single_printed}
+use Rattle.layout_laws.proofs.WordLemmas.Prints.{name_printed, number_printed, fold_printed, number_of_printed, quoted_printed, text_printed, pattern_printed, directive_printed, single_printed}
+use Rattle.layout_laws.proofs.PatternLemmas.{normal_text}
 use Rattle.layout_laws.proofs.GoodLemmas.{AreGood, good_left, good_right}
 use Rattle.layout_laws.proofs.LaidLemmas.{Laid, IsRead, laid_split, read_none, read_join, first_read}
 use Rattle.layout_laws.proofs.LaidLemmas.Laid.{no_word}
@@ -204,13 +206,12 @@ module _ (o : OutlineParts) (sheet : Sheet) (sound : IsSound o sheet) (bytes : L
 pub record DeclsRead (bytes : List ℕ) (from : ℕ) (decls : List Decl) (words : Words) (to : ℕ) : Type 0 where
   pub printed : List Declaration
   pub are : AreDecls printed decls
-  pub plain : All IsPlainDeclaration printed
   pub no_start : flat_map start_in printed ≡ []
   pub before : IsReadBefore bytes from (flat_map spelled_declaration printed) words to
 
 module _ (bytes : List ℕ) (to : ℕ) where
   pub decls_read : {ds : List Declaration} {decls : List Decl} (from : ℕ) (words : Words) → AreDecls ds decls → AreGood (flat_map spelled_declaration ds) → Laid bytes from (flat_map (λ l. l) (map decl_words decls) ++ words) to → DeclsRead bytes from decls words to
-  decls_read from words no_decl good h = record { printed = []; are = no_decl; plain = All-nil IsPlainDeclaration; no_start = refl; before = before_none bytes from words to h }
+  decls_read from words no_decl good h = record { printed = []; are = no_decl; no_start = refl; before = before_none bytes from words to h }
   decls_read from words (start_first are) good h = decls_read from words are good.1.1 h
   decls_read from words (literal_first {name = name} {literal = literal} {decls = decls} are is) good h =
       let more : Words = flat_map (λ l. l) (map decl_words decls) ++ words in
@@ -223,7 +224,33 @@ module _ (bytes : List ℕ) (to : ℕ) where
       record {
         printed = declared ∷ rest.printed;
         are = literal_first rest.are is;
-        plain = All-cons IsPlainDeclaration declared rest.printed tt rest.plain;
         no_start = rest.no_start;
         before = record { next = rest.before.next; read = read_join bytes one.read (read_join bytes two.read (read_join bytes three.read rest.before.read)); laid = rest.before.laid };
+      }
+  decls_read from words (matched_first {name = name} {word = word} {pattern = pattern} {decls = decls} spelled are is) good h =
+      let more : Words = flat_map (λ l. l) (map decl_words decls) ++ words in
+      let laid : Laid bytes from (codes "%token" ∷ name.bytes ∷ pattern_text pattern ∷ more) to = subst (λ l. Laid bytes from (flat_map (λ m. m) (map decl_words l) ++ words) to) is h in
+      let one = first_read bytes from to (directive_lexeme Token) (codes "%token") (name.bytes ∷ pattern_text pattern ∷ more) directive_printed laid in
+      let two = first_read bytes one.next to (name_lexeme name.bytes) name.bytes (pattern_text pattern ∷ more) (name_printed good.1.0) one.laid in
+      let three = first_read bytes two.next to (pattern_lexeme (normal_spelling pattern)) (pattern_text pattern) more (pattern_printed (normal_text word.bytes pattern spelled)) two.laid in
+      let rest = decls_read three.next words are good.1.1.1 three.laid in
+      let declared : Declaration = Matched (record { bytes = name.bytes; line = two.line }) (record { bytes = normal_spelling pattern; line = three.line }) in
+      record {
+        printed = declared ∷ rest.printed;
+        are = matched_first (normal_spells word.bytes pattern spelled) rest.are is;
+        no_start = rest.no_start;
+        before = record { next = rest.before.next; read = read_join bytes one.read (read_join bytes two.read (read_join bytes three.read rest.before.read)); laid = rest.before.laid };
+      }
+  decls_read from words (skip_first {word = word} {pattern = pattern} {decls = decls} spelled are is) good h =
+      let more : Words = flat_map (λ l. l) (map decl_words decls) ++ words in
+      let laid : Laid bytes from (codes "%skip" ∷ pattern_text pattern ∷ more) to = subst (λ l. Laid bytes from (flat_map (λ m. m) (map decl_words l) ++ words) to) is h in
+      let one = first_read bytes from to (directive_lexeme skip_directive) (codes "%skip") (pattern_text pattern ∷ more) directive_printed laid in
+      let two = first_read bytes one.next to (pattern_lexeme (normal_spelling pattern)) (pattern_text pattern) more (pattern_printed (normal_text word.bytes pattern spelled)) one.laid in
+      let rest = decls_read two.next words are good.1.1 two.laid in
+      let declared : Declaration = Skip (record { bytes = normal_spelling pattern; line = two.line }) in
+      record {
+        printed = declared ∷ rest.printed;
+        are = skip_first (normal_spells word.bytes pattern spelled) rest.are is;
+        no_start = rest.no_start;
+        before = record { next = rest.before.next; read = read_join bytes one.read (read_join bytes two.read rest.before.read); laid = rest.before.laid };
       }

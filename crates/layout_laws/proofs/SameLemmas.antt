@@ -19,7 +19,7 @@ use Rattle.outline_data.specs.Parts.{OutlineParts}
 use Rattle.outline_theory.specs.Spelling.{IsShaped}
 use Rattle.outline_theory.specs.Words.{texts, token_words, literal_words, start_in, starts, left_words, alternatives_of, quoted_in, side_literals}
 use Rattle.outline_theory.specs.Numbering.{is_one_of, index_of, distinct, unnamed_literals, literal_of_token, token_literals, grammar_names, WordLists, lists_of, symbol_by, rules_by, rules_of, start_by, template_by, template_of, declares_of, AreDecls, IsSheetOf}
-use Rattle.outline_theory.specs.Numbering.AreDecls.{no_decl, literal_first, start_first}
+use Rattle.outline_theory.specs.Numbering.AreDecls.{no_decl, literal_first, matched_first, skip_first, start_first}
 use Rattle.layout_laws.proofs.IndexLemmas.{Test, filter_by}
 use Rattle.layout_laws.proofs.SideLemmas.{Side, left_of, sides_in, rule_at, sides_alternatives, sides_rules, sides_lefts, map_twice, groups_of, groups_alternatives, groups_lefts, groups_rules}
 use Rattle.layout_laws.proofs.FactLemmas.{decls_names, decls_literals, decls_token_literals}
@@ -116,6 +116,8 @@ printed_declares (next_side {side = side} {others = others} is are) = ap (λ p. 
 with_start : {ds : List Declaration} {decls : List Decl} (line : ℕ) (start : Word) → AreDecls ds decls → AreDecls (ds ++ Start line start ∷ []) decls
 with_start line start no_decl = start_first no_decl
 with_start line start (literal_first are is) = literal_first (with_start line start are) is
+with_start line start (matched_first spelled are is) = matched_first spelled (with_start line start are) is
+with_start line start (skip_first spelled are is) = skip_first spelled (with_start line start are) is
 with_start line start (start_first are) = start_first (with_start line start are)
 
 same_lists : (one other : WordLists) → one.tokens ≡ other.tokens → one.literals ≡ other.literals → one.names ≡ other.names → one ≡ other
@@ -128,7 +130,7 @@ module _ (o : OutlineParts) (shaped : IsShaped o) (sheet : Sheet) (sound : IsSou
   abbrev pub printed : OutlineParts
   printed = layout_outline r.declared r.line r.start r.sides
 
-  decls : AreDecls printed.declarations sheet.decls
+  pub decls : AreDecls printed.declarations sheet.decls
   decls = with_start r.line r.start r.are
 
   pub tokens_same : texts (token_words printed) ≡ texts (token_words o)

@@ -1,6 +1,7 @@
 -- The symbols of a right side, as a layout has them.
-use Rattle.std.proofs.Common.{◌≡◌, ℕ, ◌+◌, ◌<◌, List, [], ◌∷◌, ◌++◌, length, map, get_or, true, false, cond, refl, sym, ap, subst, ◌∙◌, inl, inr, arith}
+use Rattle.std.proofs.Common.{◌≡◌, ◌≢◌, ℕ, ◌+◌, ◌<◌, List, [], ◌∷◌, ◌++◌, length, map, get_or, true, false, cond, refl, sym, ap, subst, ◌∙◌, inl, inr, arith}
 use Rattle.std.specs.Prelude.{All, Contains, Some, slice_get, unwrap_or}
+use Rattle.std.specs.List.{flat_map}
 use Rattle.std.proofs.lemmas.List.Elements.{All-head, All-tail}
 use Rattle.std.proofs.lemmas.Option.{slice_get-get_or}
 use Rattle.grammar_data.specs.declared.rule.Sym.TheVariants.{Token as token_symbol, Name as name_symbol}
@@ -14,7 +15,7 @@ use Rattle.outline_data.specs.declared.rules.Symbol.TheVariants.{Name, Quoted}
 use Rattle.outline_data.specs.Parts.{OutlineParts}
 use Rattle.outline_theory.specs.Spelling.{Kept, spelled_symbol}
 use Rattle.outline_theory.specs.Words.{texts, token_words, literal_words}
-use Rattle.outline_theory.specs.Numbering.{is_one_of, index_of, unnamed_literals, token_literals, grammar_names, WordLists, lists_of, symbol_by, IsSheetOf}
+use Rattle.outline_theory.specs.Numbering.{is_one_of, index_of, unnamed_literals, literal_of_token, token_literals, grammar_names, WordLists, lists_of, symbol_by, IsSheetOf}
 use Rattle.outline_theory.specs.Layout.{symbol_text}
 use Rattle.layout_laws.proofs.WordLemmas.{IsName, AreBytes}
 use Rattle.layout_laws.proofs.WordLemmas.Prints.{name_printed, quoted_printed}
@@ -36,12 +37,16 @@ before_none bytes from words to h = record { next = from; read = read_none bytes
 pub before_join : (bytes : List ℕ) (from : ℕ) (lexemes others : List Kept) (words more : Words) (to : ℕ) (one : IsReadBefore bytes from lexemes more to) → IsReadBefore bytes one.next others words to → IsReadBefore bytes from (lexemes ++ others) words to
 before_join bytes from lexemes others words more to one other = record { next = other.next; read = read_join bytes one.read other.read; laid = other.laid }
 
+-- the literals of the declared tokens, by their numbers
+abbrev pub declared_literals : OutlineParts → Words
+declared_literals o = flat_map literal_of_token o.declarations
+
 -- what holds of an outline and its sheet
 pub record IsSound (o : OutlineParts) (sheet : Sheet) : Type 0 where
   pub says : IsSheetOf o sheet
   pub tokens : declared_names sheet.decls ≡ texts (token_words o)
-  pub literals : token_literals o ≡ texts (literal_words o) ++ unnamed_literals o
-  pub size : length (texts (literal_words o)) ≡ length (texts (token_words o))
+  pub size : length (declared_literals o) ≡ length (texts (token_words o))
+  pub declared : (word : List ℕ) → word ≢ [] → is_one_of (declared_literals o) word ≡ is_one_of (texts (literal_words o)) word
   pub once : (word : List ℕ) → IsRepeated (texts (token_words o)) word → ⊥
   pub named : (word : List ℕ) → Contains (texts (token_words o)) word → IsName word
 
@@ -88,16 +93,16 @@ module _ (o : OutlineParts) (sheet : Sheet) (sound : IsSound o sheet) where
   name_prints word (inr (none, rule)) = ap (symbol_text sheet) (name_is word none) ∙ name_text word.bytes rule
 
   -- literals
-  unnamed_index : (word : List ℕ) → is_one_of (texts (literal_words o)) word ≡ false → index_of (token_literals o) word ≡ length (declared_names sheet.decls) + index_of sheet.literals word
-  unnamed_index word none =
-      let place = ap (λ l. index_of l word) sound.literals ∙ index_append_right (texts (literal_words o)) (unnamed_literals o) word none in
+  unnamed_index : (word : List ℕ) → word ≢ [] → is_one_of (texts (literal_words o)) word ≡ false → index_of (token_literals o) word ≡ length (declared_names sheet.decls) + index_of sheet.literals word
+  unnamed_index word some none =
+      let place = index_append_right (declared_literals o) (unnamed_literals o) word (sound.declared word some ∙ none) in
       let size : length (declared_names sheet.decls) ≡ length (texts (token_words o)) = ap length sound.tokens in
       let same : index_of sheet.literals word ≡ index_of (unnamed_literals o) word = ap (λ l. index_of l word) sound.says.literals in
       omega (arith, place, size, same, sound.size)
 
-  unnamed_prints : (word : Word) → is_one_of (texts (literal_words o)) word.bytes ≡ false → is_one_of (unnamed_literals o) word.bytes ≡ true → symbol_text sheet (symbol_by lists (Quoted word)) ≡ escaped quote word.bytes
-  unnamed_prints word none one =
-      ap (λ n. unwrap_or (slice_get (token_names sheet) n) []) (unnamed_index word.bytes none)
+  unnamed_prints : (word : Word) → word.bytes ≢ [] → is_one_of (texts (literal_words o)) word.bytes ≡ false → is_one_of (unnamed_literals o) word.bytes ≡ true → symbol_text sheet (symbol_by lists (Quoted word)) ≡ escaped quote word.bytes
+  unnamed_prints word some none one =
+      ap (λ n. unwrap_or (slice_get (token_names sheet) n) []) (unnamed_index word.bytes some none)
       ∙ ap (λ x. unwrap_or x []) (token_names-literal sheet (index_of sheet.literals word.bytes) word.bytes (at_first sheet.literals word.bytes (ap (λ l. is_one_of l word.bytes) sound.says.literals ∙ one)))
 
   -- the name of a literal's token
@@ -107,13 +112,14 @@ module _ (o : OutlineParts) (sheet : Sheet) (sound : IsSound o sheet) where
     pub text : symbol_text sheet (symbol_by lists (Quoted word)) ≡ name
     pub is : token_symbol (index_of (texts (token_words o)) name) ≡ symbol_by lists (Quoted word)
 
-  token_of : (word : Word) → is_one_of (texts (literal_words o)) word.bytes ≡ true → TokenOf word
-  token_of word one =
+  token_of : (word : Word) → word.bytes ≢ [] → is_one_of (texts (literal_words o)) word.bytes ≡ true → TokenOf word
+  token_of word some one =
       let tokens : Words = texts (token_words o) in
-      let a : ℕ = index_of (texts (literal_words o)) word.bytes in
-      let within : a < length (texts (literal_words o)) = index_within (texts (literal_words o)) word.bytes one in
+      let known : is_one_of (declared_literals o) word.bytes ≡ true = sound.declared word.bytes some ∙ one in
+      let a : ℕ = index_of (declared_literals o) word.bytes in
+      let within : a < length (declared_literals o) = index_within (declared_literals o) word.bytes known in
       let found : slice_get tokens a ≡ Some (get_or tokens a []) = slice_get-get_or tokens a [] (omega (arith, within, sound.size)) in
-      let same : index_of (token_literals o) word.bytes ≡ a = ap (λ l. index_of l word.bytes) sound.literals ∙ index_append_left (texts (literal_words o)) (unnamed_literals o) word.bytes one in
+      let same : index_of (token_literals o) word.bytes ≡ a = index_append_left (declared_literals o) (unnamed_literals o) word.bytes known in
       record {
         name = get_or tokens a [];
         one = one_at tokens (get_or tokens a []) a found;
@@ -135,8 +141,8 @@ module _ (o : OutlineParts) (sheet : Sheet) (sound : IsSound o sheet) where
         }
 
     quoted_read : (from : ℕ) (word : Word) (words : Words) → IsKnown o (Quoted word) → AreBytes word.bytes → Laid bytes from (symbol_text sheet (symbol_by lists (Quoted word)) ∷ words) to → SymbolRead o bytes from (Quoted word) words to
-    quoted_read from word words (inl one) good h =
-        let token = token_of word one in
+    quoted_read from word words (some, inl one) good h =
+        let token = token_of word some one in
         let read = first_read bytes from to (name_lexeme token.name) token.name words (name_printed (sound.named token.name (contains (texts (token_words o)) token.name token.one))) (with_text from _ token.name words token.text h) in
         let name : Word = record { bytes = token.name; line = read.line } in
         record {
@@ -144,8 +150,8 @@ module _ (o : OutlineParts) (sheet : Sheet) (sound : IsSound o sheet) where
           is = named_literal one token.one (token_is name token.one ∙ token.is);
           before = record { next = read.next; read = read.read; laid = read.laid };
         }
-    quoted_read from word words (inr (none, one)) good h =
-        let read = first_read bytes from to (quoted_lexeme word.bytes) (escaped quote word.bytes) words (quoted_printed good) (with_text from _ (escaped quote word.bytes) words (unnamed_prints word none one) h) in
+    quoted_read from word words (some, inr (none, one)) good h =
+        let read = first_read bytes from to (quoted_lexeme word.bytes) (escaped quote word.bytes) words (quoted_printed good) (with_text from _ (escaped quote word.bytes) words (unnamed_prints word some none one) h) in
         record {
           printed = Quoted (record { bytes = word.bytes; line = read.line });
           is = same_literal refl none;

@@ -2,11 +2,12 @@
 use Rattle.std.proofs.Common.{◌≡◌, ℕ, suc, ◌+◌, ◌-◌, ◌/◌, ◌%◌, ◌<◌, ◌≤◌, ◌⊎◌, Bool, true, false, cond, List, [], ◌∷◌, ◌++◌, length, get_or, refl, sym, ap, subst, ◌∙◌, inl, inr, ⊎_elim, arith, length-append}
 use Rattle.std.specs.Prelude.{All, ◌&&◌, ◌||◌, ◌==◌, nat_lt, nat_le, not, slice_range}
 use Rattle.std.specs.List.{flat_map, list_any}
-use Rattle.std.proofs.lemmas.Bool.{false≢true, eqb-true, eq-eqb, cases_lt, lt-ltb}
+use Rattle.std.proofs.lemmas.Bool.{false≢true, eqb-true, eq-eqb, cases_lt, lt-ltb, and_right}
 use Rattle.std.proofs.lemmas.Bool.Decides.{nat_tests}
 use Rattle.std.proofs.lemmas.List.Elements.{All-head, All-tail, All-append, All-nil, All-cons}
 use Rattle.scanning_theory.specs.Lines.{line_feed}
 use Rattle.sheet_theory.specs.Names.{quote, double_quote, backslash, hex_digit, escaped_byte}
+use Rattle.outline_theory.specs.Layout.{slash}
 use Rattle.lexeme_theory.specs.SheetBytes.{is_bad_in_text}
 use Rattle.lexeme_theory.specs.Texts.{is_taken_at, text_goes_on, IsTextRun, is_closed, has_bad_byte}
 use Rattle.layout_laws.proofs.StandLemmas.{Stands, stands_front, stands_back, stands_inside, stands_range, stands_first, stands_last}
@@ -14,24 +15,32 @@ use Rattle.layout_laws.proofs.StandLemmas.{Stands, stands_front, stands_back, st
 abbrev pub IsClosing : ℕ → Type 0
 IsClosing closing = (closing ≡ quote) ⊎ (closing ≡ double_quote)
 
+-- a quote, or the slash
+abbrev pub IsEnding : ℕ → Type 0
+IsEnding closing = (closing ≡ quote) ⊎ ((closing ≡ double_quote) ⊎ (closing ≡ slash))
+
+quote_ends : (closing : ℕ) → IsClosing closing → IsEnding closing
+quote_ends closing (inl e) = inl e
+quote_ends closing (inr e) = inr (inl e)
+
 -- a backslash takes the byte behind this one
-abbrev next_taken : ℕ → Bool → Bool
+abbrev pub next_taken : ℕ → Bool → Bool
 next_taken byte taken = (byte == backslash) && not taken
 
 -- the text goes on at this byte
-abbrev goes : ℕ → ℕ → Bool → Bool
+abbrev pub goes : ℕ → ℕ → Bool → Bool
 goes closing byte taken = not (byte == line_feed) && (not (byte == closing) || taken)
 
-abbrev taken_after : List ℕ → Bool → Bool
+abbrev pub taken_after : List ℕ → Bool → Bool
 taken_after [] taken = taken
 taken_after (byte ∷ text) taken = taken_after text (next_taken byte taken)
 
-abbrev AllGo : ℕ → List ℕ → Bool → Type 0
+abbrev pub AllGo : ℕ → List ℕ → Bool → Type 0
 AllGo closing [] taken = Unit {0}
 AllGo closing (byte ∷ text) taken = (goes closing byte taken ≡ true) × AllGo closing text (next_taken byte taken)
 
 -- bytes of which none closes a text, leaves the byte behind them taken, or is bad
-record IsSafe (closing : ℕ) (text : List ℕ) : Type 0 where
+pub record IsSafe (closing : ℕ) (text : List ℕ) : Type 0 where
   pub all : AllGo closing text false
   pub free : taken_after text false ≡ false
   pub good : All (λ byte. is_bad_in_text byte ≡ false) text
@@ -44,14 +53,14 @@ taken_append : (text more : List ℕ) (taken : Bool) → taken_after (text ++ mo
 taken_append [] more taken = refl
 taken_append (byte ∷ text) more taken = taken_append text more (next_taken byte taken)
 
-safe_append : (closing : ℕ) (text more : List ℕ) → IsSafe closing text → IsSafe closing more → IsSafe closing (text ++ more)
+pub safe_append : (closing : ℕ) (text more : List ℕ) → IsSafe closing text → IsSafe closing more → IsSafe closing (text ++ more)
 safe_append closing text more h k = record {
   all = go_append closing text more false h.all (subst (AllGo closing more) (sym h.free) k.all);
   free = taken_append text more false ∙ ap (taken_after more) h.free ∙ k.free;
   good = All-append (λ byte. is_bad_in_text byte ≡ false) text more h.good k.good;
 }
 
-good_two : (a b : ℕ) → is_bad_in_text a ≡ false → is_bad_in_text b ≡ false → All (λ byte. is_bad_in_text byte ≡ false) (a ∷ b ∷ [])
+pub good_two : (a b : ℕ) → is_bad_in_text a ≡ false → is_bad_in_text b ≡ false → All (λ byte. is_bad_in_text byte ≡ false) (a ∷ b ∷ [])
 good_two a b h k = let P : ℕ → Type 0 = λ byte. is_bad_in_text byte ≡ false in All-cons P a (b ∷ []) h (All-cons P b [] k (All-nil P))
 
 -- a sign with a backslash before it
@@ -81,7 +90,7 @@ single_goes closing byte is none shown = grind (arith, nat_tests)
 single_free : (closing byte : ℕ) → ((byte == closing) || (byte == backslash)) ≡ false → next_taken byte false ≡ false
 single_free closing byte none = grind (arith, nat_tests)
 
-single_good : (byte : ℕ) → (nat_le 32 byte && nat_le byte 126) ≡ true → is_bad_in_text byte ≡ false
+pub single_good : (byte : ℕ) → (nat_le 32 byte && nat_le byte 126) ≡ true → is_bad_in_text byte ≡ false
 single_good byte shown = grind (arith, nat_tests)
 
 itself_safe : (closing byte : ℕ) → IsClosing closing → ((byte == closing) || (byte == backslash)) ≡ false → (nat_le 32 byte && nat_le byte 126) ≡ true → IsSafe closing (byte ∷ [])
@@ -92,7 +101,7 @@ itself_safe closing byte is none shown = record {
 }
 
 -- a digit
-digit_goes : (closing n : ℕ) → IsClosing closing → n < 16 → goes closing (hex_digit n) false ≡ true
+digit_goes : (closing n : ℕ) → IsEnding closing → n < 16 → goes closing (hex_digit n) false ≡ true
 digit_goes closing n is h = grind (arith, nat_tests)
 
 digit_free : (n : ℕ) → n < 16 → next_taken (hex_digit n) false ≡ false
@@ -101,18 +110,19 @@ digit_free n h = grind (arith, nat_tests)
 digit_good : (n : ℕ) → n < 16 → is_bad_in_text (hex_digit n) ≡ false
 digit_good n h = grind (arith, nat_tests)
 
-digit_safe : (closing n : ℕ) → IsClosing closing → n < 16 → IsSafe closing (hex_digit n ∷ [])
+digit_safe : (closing n : ℕ) → IsEnding closing → n < 16 → IsSafe closing (hex_digit n ∷ [])
 digit_safe closing n is h = record {
   all = (digit_goes closing n is h, tt);
   free = digit_free n h;
   good = let P : ℕ → Type 0 = λ b. is_bad_in_text b ≡ false in All-cons P (hex_digit n) [] (digit_good n h) (All-nil P);
 }
 
-hex_front : (closing : ℕ) → IsClosing closing → IsSafe closing (92 ∷ 120 ∷ [])
+hex_front : (closing : ℕ) → IsEnding closing → IsSafe closing (92 ∷ 120 ∷ [])
 hex_front closing (inl e) = subst (λ c. IsSafe c (92 ∷ 120 ∷ [])) (sym e) (record { all = (refl, (refl, tt)); free = refl; good = good_two 92 120 refl refl })
-hex_front closing (inr e) = subst (λ c. IsSafe c (92 ∷ 120 ∷ [])) (sym e) (record { all = (refl, (refl, tt)); free = refl; good = good_two 92 120 refl refl })
+hex_front closing (inr (inl e)) = subst (λ c. IsSafe c (92 ∷ 120 ∷ [])) (sym e) (record { all = (refl, (refl, tt)); free = refl; good = good_two 92 120 refl refl })
+hex_front closing (inr (inr e)) = subst (λ c. IsSafe c (92 ∷ 120 ∷ [])) (sym e) (record { all = (refl, (refl, tt)); free = refl; good = good_two 92 120 refl refl })
 
-hex_safe : (closing high low : ℕ) → IsClosing closing → high < 16 → low < 16 → IsSafe closing (backslash ∷ 120 ∷ hex_digit high ∷ hex_digit low ∷ [])
+pub hex_safe : (closing high low : ℕ) → IsEnding closing → high < 16 → low < 16 → IsSafe closing (backslash ∷ 120 ∷ hex_digit high ∷ hex_digit low ∷ [])
 hex_safe closing high low is h k =
     safe_append closing (92 ∷ 120 ∷ []) (hex_digit high ∷ hex_digit low ∷ []) (hex_front closing is) (safe_append closing (hex_digit high ∷ []) (hex_digit low ∷ []) (digit_safe closing high is h) (digit_safe closing low is k))
 
@@ -127,7 +137,7 @@ signs_safe closing byte (inr e) h = subst (λ c. IsSafe c (backslash ∷ byte �
 byte_safe : (closing byte : ℕ) → IsClosing closing → byte < 256 → IsSafe closing (escaped_byte closing byte)
 byte_safe closing byte is h =
     by_cond (IsSafe closing) ((byte == closing) || (byte == backslash)) (backslash ∷ byte ∷ []) _ (signs_safe closing byte is)
-    (λ none. by_cond (IsSafe closing) (nat_le 32 byte && nat_le byte 126) (byte ∷ []) _ (λ shown. itself_safe closing byte is none shown) (λ _. hex_safe closing (byte / 16) (byte % 16) is (omega arith) (omega arith)))
+    (λ none. by_cond (IsSafe closing) (nat_le 32 byte && nat_le byte 126) (byte ∷ []) _ (λ shown. itself_safe closing byte is none shown) (λ _. hex_safe closing (byte / 16) (byte % 16) (quote_ends closing is) (omega arith) (omega arith)))
 
 printed_safe : (closing : ℕ) (bytes : List ℕ) → IsClosing closing → All (λ byte. byte < 256) bytes → IsSafe closing (flat_map (escaped_byte closing) bytes)
 printed_safe closing [] is h = record { all = tt; free = refl; good = All-nil (λ byte. is_bad_in_text byte ≡ false) }
@@ -165,9 +175,8 @@ module _ (closing : ℕ) (bytes : List ℕ) (from : ℕ) where
       (λ here. let same : j ≡ k = omega (arith, here, above) in ap (λ n. text_goes_on closing bytes from (from + n)) same ∙ goes_by k byte taken (stands_first bytes (from + k) byte text h) e ∙ all.0)
       (cases_lt k j)
 
-closes : (closing : ℕ) → IsClosing closing → goes closing closing false ≡ false
-closes closing (inl e) = subst (λ c. goes c c false ≡ false) (sym e) refl
-closes closing (inr e) = subst (λ c. goes c c false ≡ false) (sym e) refl
+closes : (closing : ℕ) → goes closing closing false ≡ false
+closes closing = ap (λ b. not (closing == line_feed) && (not b || false)) (eq-eqb closing closing refl) ∙ and_right (not (closing == line_feed)) false refl
 
 none_bad : (text : List ℕ) → All (λ byte. is_bad_in_text byte ≡ false) text → list_any is_bad_in_text text ≡ false
 none_bad [] h = refl
@@ -175,7 +184,7 @@ none_bad (byte ∷ text) h =
     let P : ℕ → Type 0 = λ b. is_bad_in_text b ≡ false in
     ap (λ b. b || list_any is_bad_in_text text) (All-head P byte text h) ∙ none_bad text (All-tail P byte text h)
 
-module _ (closing : ℕ) (bytes : List ℕ) (from : ℕ) (body : List ℕ) (is : IsClosing closing) (safe : IsSafe closing body) (h : Stands bytes from (body ++ closing ∷ [])) where
+module _ (closing : ℕ) (bytes : List ℕ) (from : ℕ) (body : List ℕ) (safe : IsSafe closing body) (h : Stands bytes from (body ++ closing ∷ [])) where
   from_zero : from + 0 ≡ from
   from_zero = omega arith
 
@@ -194,7 +203,7 @@ module _ (closing : ℕ) (bytes : List ℕ) (from : ℕ) (body : List ℕ) (is :
             let place : i ≡ from + (i - from) = omega (arith, above) in
             ap (λ n. text_goes_on closing bytes from n) place ∙ goes_at closing bytes from 0 body false front refl safe.all (i - from) (omega arith) (omega (arith, above, below));
         ended = λ below.
-            goes_by closing bytes from (length body) closing false (stands_last bytes from body closing h) (taken_all front ∙ safe.free) ∙ closes closing is;
+            goes_by closing bytes from (length body) closing false (stands_last bytes from body closing h) (taken_all front ∙ safe.free) ∙ closes closing;
       }
 
   text_good : has_bad_byte bytes from (from + length body) ≡ false
@@ -217,13 +226,14 @@ pub record IsPrintedText (closing : ℕ) (bytes : List ℕ) (from : ℕ) (body :
   pub closed : is_closed closing bytes (from + length body) ≡ true
   pub text : slice_range bytes from (from + length body) ≡ body
 
+-- a text of which no byte closes it
+pub ended_text : (closing : ℕ) (bytes : List ℕ) (from : ℕ) (body : List ℕ) → IsSafe closing body → Stands bytes from (body ++ closing ∷ []) → IsPrintedText closing bytes from body
+ended_text closing bytes from body safe h = record {
+  run = text_run closing bytes from body safe h;
+  good = text_good closing bytes from body safe h;
+  closed = text_closed closing bytes from body safe h;
+  text = stands_range bytes from body (stands_front bytes from body (closing ∷ []) h);
+}
+
 pub printed_text : (closing : ℕ) (bytes : List ℕ) (from : ℕ) (text : List ℕ) → IsClosing closing → All (λ byte. byte < 256) text → Stands bytes from (flat_map (escaped_byte closing) text ++ closing ∷ []) → IsPrintedText closing bytes from (flat_map (escaped_byte closing) text)
-printed_text closing bytes from text is small h =
-    let body : List ℕ = flat_map (escaped_byte closing) text in
-    let safe : IsSafe closing body = printed_safe closing text is small in
-    record {
-      run = text_run closing bytes from body is safe h;
-      good = text_good closing bytes from body is safe h;
-      closed = text_closed closing bytes from body is safe h;
-      text = stands_range bytes from body (stands_front bytes from body (closing ∷ []) h);
-    }
+printed_text closing bytes from text is small h = ended_text closing bytes from (flat_map (escaped_byte closing) text) (printed_safe closing text is small) h

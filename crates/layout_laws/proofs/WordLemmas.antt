@@ -1,14 +1,14 @@
 -- The words of a layout, and the lexemes that they are.
 use Rattle.std.proofs.Common.{◌≡◌, ℕ, ◌+◌, ◌-◌, ◌<◌, ◌≤◌, ◌⊎◌, Bool, true, false, cond, List, [], ◌∷◌, ◌++◌, length, refl, sym, ap, subst, ◌∙◌, inl, inr, arith, length-append}
-use Rattle.std.specs.Prelude.{All, MatchBool, Option, Some, slice_get, slice_range, codes}
+use Rattle.std.specs.Prelude.{◌==◌, All, MatchBool, Option, Some, slice_get, slice_range, codes}
 use Rattle.std.specs.List.{flat_map}
 use Rattle.std.specs.Fmt.{decimal}
-use Rattle.std.proofs.lemmas.Bool.{false≢true, le-leb}
+use Rattle.std.proofs.lemmas.Bool.{false≢true, le-leb, ne_eqb}
 use Rattle.std.proofs.lemmas.Bool.Decides.{nat_tests}
 use Rattle.std.proofs.lemmas.List.Elements.{All-head, All-from_recursion}
 use Rattle.sheet_theory.specs.Names.{quote, double_quote, escaped_byte, escaped}
 use Rattle.lexeme_theory.specs.declared.lexeme.Lexeme.{Lexeme}
-use Rattle.lexeme_theory.specs.declared.lexeme.Lexeme.TheVariants.{Name, Number, Fold, NumberOf, Quoted, Text, Directive as directive_lexeme, Mark, Single as single_lexeme}
+use Rattle.lexeme_theory.specs.declared.lexeme.Lexeme.TheVariants.{Name, Number, Fold, NumberOf, Quoted, Text, Pattern, Directive as directive_lexeme, Mark, Single as single_lexeme}
 use Rattle.lexeme_theory.specs.declared.lexeme.Directive.{Directive}
 use Rattle.lexeme_theory.specs.declared.lexeme.Directive.TheVariants.{Token, Skip, Start, Declares}
 use Rattle.lexeme_theory.specs.declared.lexeme.Single.{Single}
@@ -16,7 +16,7 @@ use Rattle.lexeme_theory.specs.declared.lexeme.Single.TheVariants.{Colon, Bar, S
 use Rattle.lexeme_theory.specs.declared.found.Found.{Found}
 use Rattle.lexeme_theory.specs.declared.found.Found.TheVariants.{Blank as blank_found, Lexeme as lexeme_found}
 use Rattle.lexeme_theory.specs.declared.begin.Begin.{Begin}
-use Rattle.lexeme_theory.specs.declared.begin.Begin.TheVariants.{Blank as blank_begins, Name as name_begins, Number as number_begins, Fold as fold_begins, NumberOf as number_of_begins, Quoted as quoted_begins, Text as text_begins, Directive as directive_begins, Mark as mark_begins, Single as single_begins, Nothing as nothing_begins}
+use Rattle.lexeme_theory.specs.declared.begin.Begin.TheVariants.{Blank as blank_begins, LineComment as line_comment_begins, BlockComment as block_comment_begins, Pattern as pattern_begins, Name as name_begins, Number as number_begins, Fold as fold_begins, NumberOf as number_of_begins, Quoted as quoted_begins, Text as text_begins, Directive as directive_begins, Mark as mark_begins, Single as single_begins, Nothing as nothing_begins}
 use Rattle.lexeme_theory.specs.SheetBytes.{is_blank, is_name_start, is_name_byte, is_digit}
 use Rattle.lexeme_theory.specs.Begins.{begin_by_sign, begin_by, begin_at}
 use Rattle.lexeme_theory.specs.Decimals.{decimal_value}
@@ -24,8 +24,9 @@ use Rattle.lexeme_theory.specs.Escapes.{Spells}
 use Rattle.lexeme_theory.specs.Texts.{is_closed, has_bad_byte}
 use Rattle.lexeme_theory.specs.Stands.{syntax_fault, number_found, directive_word, IsNumberFound, IsSpelledFound, IsSpelledText, IsTextOf, IsFoundBy, IsFound, IsLexeme, IsBlank}
 use Rattle.lexeme_theory.proofs.PrintedLemmas.{printed_spells}
+use Rattle.outline_theory.specs.Layout.{slash}
 use Rattle.layout_laws.proofs.StandLemmas.{Stands, stands_front, stands_back, stands_inside, stands_get, stands_range, stands_first, stands_run}
-use Rattle.layout_laws.proofs.TextLemmas.{IsClosing, IsPrintedText, printed_text}
+use Rattle.layout_laws.proofs.TextLemmas.{IsClosing, IsSafe, IsPrintedText, ended_text, printed_text}
 use Rattle.layout_laws.proofs.NumberLemmas.{AreDigits, IsNumber, printed_number}
 
 -- a letter or `_`, and then such, and digits
@@ -46,6 +47,15 @@ single_word RightBrace = codes "}"
 abbrev pub AreBytes : List ℕ → Type 0
 AreBytes bytes = All (λ byte. byte < 256) bytes
 
+-- what may stand between slashes as it is: no byte closes it, and with the slash before it, it begins no comment
+pub record IsPatternText (text : List ℕ) : Type 0 where
+  pub first : ℕ
+  pub rest : List ℕ
+  pub is : text ≡ first ∷ rest
+  pub no_star : first ≡ 42 → ⊥
+  pub no_slash : first ≡ 47 → ⊥
+  pub safe : IsSafe slash text
+
 -- the lexeme is printed as this word
 pub data Prints : Lexeme → List ℕ → Type 0 where
   name_printed : {word : List ℕ} → IsName word → Prints (Name word) word
@@ -54,6 +64,7 @@ pub data Prints : Lexeme → List ℕ → Type 0 where
   number_of_printed : {n : ℕ} → n < 1_000_000_000 → Prints (NumberOf n) (35 ∷ decimal n)
   quoted_printed : {bytes : List ℕ} → AreBytes bytes → Prints (Quoted bytes) (escaped quote bytes)
   text_printed : {bytes : List ℕ} → AreBytes bytes → Prints (Text bytes) (escaped double_quote bytes)
+  pattern_printed : {text : List ℕ} → IsPatternText text → Prints (Pattern text) (slash ∷ (text ++ slash ∷ []))
   directive_printed : {directive : Directive} → Prints (directive_lexeme directive) (37 ∷ directive_word directive)
   mark_printed : Prints Mark (codes "%%")
   single_printed : {single : Single} → Prints (single_lexeme single) (single_word single)
@@ -177,6 +188,27 @@ module _ (bytes : List ℕ) (at : ℕ) where
       ends_as (make text) (to + 1) (at + length (escaped closing text)) end
       (found_as begin found closing (body ++ closing ∷ []) h (begins_one closing (body ++ closing ∷ []) h ∙ begins (slice_get bytes (at + 1))) (by found (to, printed.run, of)))
 
+  -- slashes
+  pattern_begin : (text : List ℕ) → IsPatternText text → Stands bytes at (47 ∷ (text ++ 47 ∷ [])) → begin_at bytes at ≡ pattern_begins
+  pattern_begin text pattern h =
+      let front : Stands bytes at (47 ∷ pattern.first ∷ (pattern.rest ++ 47 ∷ [])) = subst (λ w. Stands bytes at (47 ∷ (w ++ 47 ∷ []))) pattern.is h in
+      begins_two 47 pattern.first (pattern.rest ++ 47 ∷ []) front
+      ∙ ap (λ b. cond b block_comment_begins (cond (pattern.first == 47) line_comment_begins pattern_begins)) (ne_eqb pattern.first 42 pattern.no_star)
+      ∙ ap (λ b. cond b line_comment_begins pattern_begins) (ne_eqb pattern.first 47 pattern.no_slash)
+
+  pattern_stands : (text : List ℕ) → IsPatternText text → Stands bytes at (47 ∷ (text ++ 47 ∷ [])) → IsLexeme bytes at (Pattern text) (at + length (47 ∷ (text ++ 47 ∷ [])))
+  pattern_stands text pattern h =
+      let to : ℕ = at + 1 + length text in
+      let found : Found = lexeme_found (Pattern text) (to + 1) in
+      let printed : IsPrintedText 47 bytes (at + 1) text = ended_text 47 bytes (at + 1) text pattern.safe (stands_back bytes at (47 ∷ []) (text ++ 47 ∷ []) h) in
+      let size : length (text ++ 47 ∷ []) ≡ length text + 1 = length-append text (47 ∷ []) in
+      let end : to + 1 ≡ at + length (47 ∷ (text ++ 47 ∷ [])) = omega (arith, size) in
+      let closed : found ≡ lexeme_found (Pattern (slice_range bytes (at + 1) to)) (to + 1) = ap (λ t. lexeme_found (Pattern t) (to + 1)) (sym printed.text) in
+      let of : IsTextOf (λ f. f ≡ lexeme_found (Pattern (slice_range bytes (at + 1) to)) (to + 1)) 47 bytes (at + 1) to found =
+      match_false (has_bad_byte bytes (at + 1) to) _ _ printed.good (match_true (is_closed 47 bytes to) _ _ printed.closed closed) in
+      ends_as (Pattern text) (to + 1) (at + length (47 ∷ (text ++ 47 ∷ []))) end
+      (found_as pattern_begins found 47 (text ++ 47 ∷ []) h (pattern_begin text pattern h) (to, printed.run, of))
+
   -- `%`
   directive_name : (directive : Directive) → All (λ byte. is_name_byte byte ≡ true) (directive_word directive)
   directive_name Token = All-from_recursion (λ byte. is_name_byte byte ≡ true) (codes "token") (refl, (refl, (refl, (refl, (refl, tt)))))
@@ -218,6 +250,7 @@ module _ (bytes : List ℕ) (at : ℕ) where
       spelled_stands Quoted 39 quoted_begins text (inl refl) small (λ second. refl) (λ found by. by) (stands_front bytes at (escaped 39 text) (separator ∷ []) h)
   printed_stands separator (text_printed {bytes = text} small) is h =
       spelled_stands Text 34 text_begins text (inr refl) small (λ second. refl) (λ found by. by) (stands_front bytes at (escaped 34 text) (separator ∷ []) h)
+  printed_stands separator (pattern_printed {text = text} pattern) is h = pattern_stands text pattern (stands_front bytes at (47 ∷ (text ++ 47 ∷ [])) (separator ∷ []) h)
   printed_stands separator (directive_printed {directive = directive}) is h = directive_stands directive separator is h
   printed_stands separator mark_printed is h =
       found_as mark_begins (lexeme_found Mark (at + 2)) 37 (37 ∷ separator ∷ []) h (begins_two 37 37 (separator ∷ []) h) refl

@@ -1,13 +1,12 @@
 -- The number of each fault, and its line: by them the faults of an outline are put in order.
 use Rattle.std.specs.Prelude.{◌≡◌, ℕ, ◌<◌, ◌≤◌, ◌⊎◌}
 use Rattle.outline_data.specs.declared.fault.SheetFault.{SheetFault}
-use Rattle.outline_data.specs.declared.fault.SheetFault.TheVariants.{BadByte, Syntax, FormNotBuilt, BadPattern, PatternMatchesEmpty, Redeclared, UnknownSymbol, NoRules, PlaceOutOfRange, PlaceTwice, NotAToken, Limit, NoMemory}
+use Rattle.outline_data.specs.declared.fault.SheetFault.TheVariants.{BadByte, Syntax, BadPattern, PatternMatchesEmpty, Redeclared, UnknownSymbol, NoRules, PlaceOutOfRange, PlaceTwice, NotAToken, Limit, NoMemory}
 
 -- the fault's number; 0 where it has none
 abbrev pub fault_number : SheetFault → ℕ
 fault_number (BadByte line) = 1
 fault_number (Syntax line) = 2
-fault_number FormNotBuilt = 0
 fault_number (BadPattern line) = 3
 fault_number (PatternMatchesEmpty line) = 4
 fault_number (Redeclared line) = 5
@@ -23,7 +22,6 @@ fault_number NoMemory = 0
 abbrev pub fault_line : SheetFault → ℕ
 fault_line (BadByte line) = line
 fault_line (Syntax line) = line
-fault_line FormNotBuilt = 0
 fault_line (BadPattern line) = line
 fault_line (PatternMatchesEmpty line) = line
 fault_line (Redeclared line) = line

@@ -38,9 +38,6 @@ pub enum SheetFault {
     /// The bytes are no lexeme, or one with which no sheet goes on.
     #[error("line {0}: syntax")]
     Syntax(u32),
-    /// A pattern stands there, and patterns are not read yet.
-    #[error("the sheet's form is not built")]
-    FormNotBuilt,
     /// A pattern is no spelling, or a literal has a line feed.
     #[error("line {0}: bad pattern")]
     BadPattern(u32),
@@ -79,7 +76,7 @@ impl SheetFault {
         ensures { result ≡ fault_number self.now }
     {
         match self {
-            SheetFault::FormNotBuilt | SheetFault::NoMemory => 0,
+            SheetFault::NoMemory => 0,
             SheetFault::BadByte(_) => 1,
             SheetFault::Syntax(_) => 2,
             SheetFault::BadPattern(_) => 3,
@@ -99,10 +96,7 @@ impl SheetFault {
         ensures { result ≡ fault_line self.now }
     {
         match self {
-            SheetFault::FormNotBuilt
-            | SheetFault::NoRules
-            | SheetFault::Limit(_, _)
-            | SheetFault::NoMemory => 0,
+            SheetFault::NoRules | SheetFault::Limit(_, _) | SheetFault::NoMemory => 0,
             SheetFault::BadByte(line)
             | SheetFault::Syntax(line)
             | SheetFault::BadPattern(line)

@@ -1,9 +1,8 @@
--- Bytes are read to an outline, to a fault or to a pattern.
+-- Bytes are read to an outline or to a fault.
 use Rattle.std.proofs.Common.{◌≡◌, ◌≢◌, ◌⊎◌, inl, inr, ⊎_elim, ℕ, zero, suc, ◌+◌, ◌<◌, ◌≤◌, Bool, true, false, List, length, refl, sym, ap, subst, ◌∙◌, arith}
 use Rattle.std.specs.Prelude.{Option, None, Some, MatchBool}
 use Rattle.std.proofs.lemmas.Bool.{cases_lt}
 use Rattle.lexeme_theory.specs.declared.lexeme.Lexeme.{Lexeme}
-use Rattle.lexeme_theory.specs.declared.lexeme.Lexeme.TheVariants.{Pattern}
 use Rattle.lexeme_theory.specs.declared.found.FaultKind.{FaultKind}
 use Rattle.lexeme_theory.specs.declared.found.FaultKind.TheVariants.{Syntax}
 use Rattle.lexeme_theory.specs.declared.found.Found.{Found}
@@ -14,7 +13,7 @@ use Rattle.lexeme_theory.specs.Reading.AreBlanks.{no_blank, one_blank}
 use Rattle.lexeme_theory.proofs.FoundLemmas.{found_some}
 use Rattle.lexeme_theory.proofs.EndLemmas.{found_ends}
 use Rattle.outline_data.specs.Parts.{OutlineParts}
-use Rattle.outline_theory.specs.Outlines.{IsLexicalFault, IsFormNotBuilt}
+use Rattle.outline_theory.specs.Outlines.{IsLexicalFault}
 use Rattle.outline_theory.specs.Outlines.IsWrongAt.{no_lexeme as wrong_no_lexeme}
 use Rattle.stage_theory.specs.Stages.Stage.{rules, ended}
 use Rattle.stage_theory.specs.Drafts.{Draft, stage_of, next_draft, first_draft}
@@ -22,11 +21,11 @@ use Rattle.stage_theory.specs.Drafts.DeclarationDraft.{no_declaration, token_beg
 use Rattle.stage_theory.specs.Drafts.RuleDraft.{no_rule, left_read, side_open, template_open, side_behind, mark_begun, rules_ended}
 use Rattle.stage_theory.specs.Drafts.Draft.{declaring, ruling}
 use Rattle.stage_theory.proofs.RunLemmas.{whole_draft}
-use Rattle.stage_theory.proofs.ReadLemmas.{IsReadSoFar, so_far_none, so_far_blanks, so_far_lexeme, pattern_form, wrong_fault, refused_fault, end_fault, outline_plain, outline_of}
-use Rattle.outline_laws.specs.Laws.{HasPlainOutline, HasLexicalFault}
+use Rattle.stage_theory.proofs.ReadLemmas.{IsReadSoFar, so_far_none, so_far_blanks, so_far_lexeme, wrong_fault, refused_fault, end_fault, outline_of}
+use Rattle.outline_laws.specs.Laws.{HasSomeOutline, HasLexicalFault}
 
 abbrev pub HasAnswer : List ℕ → Type 0
-HasAnswer bytes = HasPlainOutline bytes ⊎ (HasLexicalFault bytes ⊎ IsFormNotBuilt bytes)
+HasAnswer bytes = HasSomeOutline bytes ⊎ HasLexicalFault bytes
 
 -- the draft of a whole outline, or one that is neither between two left sides nor ended
 abbrev pub IsOpen : Draft → Type 0
@@ -58,16 +57,12 @@ open_not_ended draft = ⊎_elim (λ w. by_rest w.0 w.0.has_rest refl w.1) (λ o.
     rest_apart : ended ≡ rules → ⊥
     rest_apart e = cc
 
-pattern_or_plain : (lexeme : Lexeme) → ((text : List ℕ) × (lexeme ≡ Pattern text)) ⊎ ((text : List ℕ) → lexeme ≢ Pattern text)
-pattern_or_plain (Pattern text) = inl (text, refl)
-pattern_or_plain lexeme = inr (λ text e. (cc))
-
 module _ (bytes : List ℕ) where
   outline_answer : (at : ℕ) (draft : Draft) (o : OutlineParts) → IsReadSoFar bytes at draft → draft ≡ whole_draft o → MatchBool o.has_rest (Unit {0}) (at ≡ length bytes) → HasAnswer bytes
-  outline_answer at draft o h is end = inl (o, outline_of bytes at draft h o is end, outline_plain bytes at draft h o is)
+  outline_answer at draft o h is end = inl (o, outline_of bytes at draft h o is end)
 
   fault_answer : (at : ℕ) (kind : FaultKind) → IsLexicalFault bytes kind (line_of bytes at) → HasAnswer bytes
-  fault_answer at kind fault = inr (inl (kind, line_of bytes at, fault))
+  fault_answer at kind fault = inr (kind, line_of bytes at, fault)
 
   -- at the end of the bytes
   end_answer : (at : ℕ) (draft : Draft) → IsReadSoFar bytes at draft → at ≡ length bytes → HasAnswer bytes
@@ -82,12 +77,8 @@ module _ (bytes : List ℕ) where
 
   lexeme_answer : (at next : ℕ) (draft : Draft) (lexeme : Lexeme) (option : Option Draft) → IsReadSoFar bytes at draft → stage_of draft ≢ ended → IsLexeme bytes at lexeme next → next_draft draft lexeme (line_of bytes at) ≡ option → Later at → HasAnswer bytes
   lexeme_answer at next draft lexeme None h open_sheet stands e later = fault_answer at Syntax (refused_fault bytes at draft h next lexeme open_sheet stands e)
-  lexeme_answer at next draft lexeme (Some more) h open_sheet stands e later = ⊎_elim as_pattern as_plain (pattern_or_plain lexeme) where
-    as_pattern : (text : List ℕ) × (lexeme ≡ Pattern text) → HasAnswer bytes
-    as_pattern p = inr (inr (pattern_form bytes at draft h next more p.0 (subst (λ l. IsLexeme bytes at l next) p.1 stands) (subst (λ l. next_draft draft l (line_of bytes at) ≡ Some more) p.1 e)))
-
-    as_plain : ((text : List ℕ) → lexeme ≢ Pattern text) → HasAnswer bytes
-    as_plain plain = let ends = found_ends bytes at (lexeme_found lexeme next) stands in later next more ends.0 ends.1 (so_far_lexeme bytes at draft h next more lexeme stands e plain)
+  lexeme_answer at next draft lexeme (Some more) h open_sheet stands e later =
+      let ends = found_ends bytes at (lexeme_found lexeme next) stands in later next more ends.0 ends.1 (so_far_lexeme bytes at draft h next more lexeme stands e)
 
   found_answer : (at : ℕ) (draft : Draft) (found : Found) → IsReadSoFar bytes at draft → stage_of draft ≢ ended → IsFound bytes at found → Later at → HasAnswer bytes
   found_answer at draft (blank_found next) h open_sheet is later = let ends = found_ends bytes at (blank_found next) is in later next draft ends.0 ends.1 (so_far_blanks bytes at next draft h (one_blank is (no_blank refl)))

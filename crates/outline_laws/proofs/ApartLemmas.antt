@@ -1,18 +1,12 @@
 -- One outline, one fault, and never two of the answers.
-use Rattle.std.proofs.Common.{◌≡◌, ⊎_elim, ℕ, ◌≤◌, Bool, true, false, List, [], ◌∷◌, ◌++◌, length, refl, sym, ap, subst, ◌∙◌, arith}
-use Rattle.std.specs.Prelude.{map, All, MatchBool}
-use Rattle.std.proofs.lemmas.List.Elements.{All-head, All-tail}
-use Rattle.lexeme_theory.specs.declared.lexeme.Lexeme.TheVariants.{Pattern}
+use Rattle.std.proofs.Common.{◌≡◌, ⊎_elim, ℕ, ◌≤◌, Bool, true, false, List, length, refl, sym, ap, subst, ◌∙◌, arith}
+use Rattle.std.specs.Prelude.{map, MatchBool}
 use Rattle.lexeme_theory.specs.declared.found.FaultKind.{FaultKind}
 use Rattle.lexeme_theory.specs.Lines.{line_of}
-use Rattle.lexeme_theory.specs.Reading.{Placed, placed_in, AreLexemes}
-use Rattle.lexeme_theory.specs.Reading.AreLexemes.{no_lexeme, lexeme_first}
-use Rattle.lexeme_theory.proofs.ReadingLemmas.{reading_join}
 use Rattle.outline_data.specs.Parts.{OutlineParts}
 use Rattle.outline_theory.specs.Spelling.{Kept, kept, spelled_outline}
-use Rattle.outline_theory.specs.Outlines.{IsOutlineOf, IsWholeSheet, IsWrongAt, IsPlainLexeme, IsLexicalFault, IsFormNotBuilt, IsPlain}
+use Rattle.outline_theory.specs.Outlines.{IsOutlineOf, IsWholeSheet, IsWrongAt, IsLexicalFault}
 use Rattle.outline_theory.specs.Outlines.IsWrongAt.{no_lexeme as wrong_no_lexeme, no_sheet_goes_on, no_whole_sheet}
-use Rattle.stage_theory.proofs.PlainLemmas.{plain_lexemes}
 use Rattle.outline_laws.proofs.CompareLemmas.{GoesOn, compare, none_behind}
 use Rattle.outline_laws.proofs.StopLemmas.{begins_more, no_rest, fault_stops, same_kind, outline_stops, outline_begins, same_outline}
 
@@ -66,41 +60,3 @@ module _ (bytes : List ℕ) where
     fault_first g =
         let stop = fault_stops bytes f.wrong g.read (begins_more f.lexemes g.rest h.lexemes g.is (outline_begins bytes o h)) in
         last_no_fault o kind line h f (sym (no_rest f.lexemes g.rest h.lexemes g.is stop.1)) (λ e. stop.0 ∙ e)
-
-  -- a form that isn't built has a pattern
-  form_lexemes : IsFormNotBuilt bytes → List Placed
-  form_lexemes n = n.lexemes ++ placed_in bytes n.at (Pattern n.text) ∷ []
-
-  form_read : (n : IsFormNotBuilt bytes) → AreLexemes bytes 0 (n.lexemes ++ placed_in bytes n.at (Pattern n.text) ∷ []) n.next
-  form_read n = reading_join bytes n.next (placed_in bytes n.at (Pattern n.text) ∷ []) n.read (lexeme_first n.stands (no_lexeme refl) refl)
-
-  has_pattern : (lexemes : List Placed) (at : ℕ) (text : List ℕ) (rest : List Placed) → All IsPlainLexeme ((lexemes ++ placed_in bytes at (Pattern text) ∷ []) ++ rest) → ⊥
-  has_pattern [] at text rest plain = All-head IsPlainLexeme (placed_in bytes at (Pattern text)) rest plain text refl
-  has_pattern (p ∷ ps) at text rest plain = has_pattern ps at text rest (All-tail IsPlainLexeme p ((ps ++ placed_in bytes at (Pattern text) ∷ []) ++ rest) plain)
-
-  pattern_alone : (lexemes : List Placed) (at : ℕ) (text : List ℕ) → All IsPlainLexeme (lexemes ++ placed_in bytes at (Pattern text) ∷ []) → ⊥
-  pattern_alone [] at text plain = All-head IsPlainLexeme (placed_in bytes at (Pattern text)) [] plain text refl
-  pattern_alone (p ∷ ps) at text plain = pattern_alone ps at text (All-tail IsPlainLexeme p (ps ++ placed_in bytes at (Pattern text) ∷ []) plain)
-
-  pub built : (o : OutlineParts) → IsOutlineOf bytes o → IsPlain o → IsFormNotBuilt bytes → ⊥
-  built o h plain n = ⊎_elim outline_first form_first (compare bytes h.read n.next (n.lexemes ++ placed_in bytes n.at (Pattern n.text) ∷ []) (form_read n)) where
-    plain_read : All IsPlainLexeme h.lexemes
-    plain_read = plain_lexemes o h.lexemes h.spelled plain
-
-    outline_first : GoesOn bytes h.lexemes h.to (n.lexemes ++ placed_in bytes n.at (Pattern n.text) ∷ []) n.next → ⊥
-    outline_first g =
-        let none = outline_stops bytes o h n.next g.rest g.read (begins_more h.lexemes g.rest _ g.is n.begins) in
-        pattern_alone n.lexemes n.at n.text (subst (λ ls. All IsPlainLexeme ls) (sym (no_rest h.lexemes g.rest _ g.is none)) plain_read)
-
-    form_first : GoesOn bytes (n.lexemes ++ placed_in bytes n.at (Pattern n.text) ∷ []) n.next h.lexemes h.to → ⊥
-    form_first g = has_pattern n.lexemes n.at n.text g.rest (subst (λ ls. All IsPlainLexeme ls) g.is plain_read)
-
-  pub fault_or_form : (kind : FaultKind) (line : ℕ) → IsLexicalFault bytes kind line → IsFormNotBuilt bytes → ⊥
-  fault_or_form kind line f n = ⊎_elim fault_first form_first (compare bytes f.read n.next (n.lexemes ++ placed_in bytes n.at (Pattern n.text) ∷ []) (form_read n)) where
-    fault_first : GoesOn bytes f.lexemes f.at (n.lexemes ++ placed_in bytes n.at (Pattern n.text) ∷ []) n.next → ⊥
-    fault_first g =
-        let stop = fault_stops bytes f.wrong g.read (begins_more f.lexemes g.rest _ g.is n.begins) in
-        pattern_alone n.lexemes n.at n.text (subst (λ ls. All IsPlainLexeme ls) (sym (no_rest f.lexemes g.rest _ g.is stop.1)) f.plain)
-
-    form_first : GoesOn bytes (n.lexemes ++ placed_in bytes n.at (Pattern n.text) ∷ []) n.next f.lexemes f.at → ⊥
-    form_first g = has_pattern n.lexemes n.at n.text g.rest (subst (λ ls. All IsPlainLexeme ls) g.is f.plain)

@@ -2,7 +2,7 @@
 use Rattle.std.specs.Prelude.{◌≡◌, ℕ, List, ◌⊎◌}
 use Rattle.lexeme_theory.specs.declared.found.FaultKind.{FaultKind}
 use Rattle.outline_data.specs.Parts.{OutlineParts}
-use Rattle.outline_theory.specs.Outlines.{IsOutlineOf, IsLexicalFault, IsFormNotBuilt, IsPlain}
+use Rattle.outline_theory.specs.Outlines.{IsOutlineOf, IsLexicalFault}
 
 -- bytes have one outline at most
 abbrev pub OneOutlineLaw : Type 0
@@ -16,20 +16,12 @@ OneFaultLaw = (bytes : List ℕ) (one other : FaultKind) (line other_line : ℕ)
 abbrev pub NoFaultLaw : Type 0
 NoFaultLaw = (bytes : List ℕ) (outline : OutlineParts) (kind : FaultKind) (line : ℕ) → IsOutlineOf bytes outline → ¬ (IsLexicalFault bytes kind line)
 
--- and their form is built where the outline has no pattern
-abbrev pub BuiltLaw : Type 0
-BuiltLaw = (bytes : List ℕ) (outline : OutlineParts) → IsOutlineOf bytes outline → IsPlain outline → ¬ (IsFormNotBuilt bytes)
-
--- a lexical fault comes before each pattern
-abbrev pub FaultOrFormLaw : Type 0
-FaultOrFormLaw = (bytes : List ℕ) (kind : FaultKind) (line : ℕ) → IsLexicalFault bytes kind line → ¬ (IsFormNotBuilt bytes)
-
-abbrev pub HasPlainOutline : List ℕ → Type 0
-HasPlainOutline bytes = (outline : OutlineParts) × IsOutlineOf bytes outline × IsPlain outline
+abbrev pub HasSomeOutline : List ℕ → Type 0
+HasSomeOutline bytes = (outline : OutlineParts) × IsOutlineOf bytes outline
 
 abbrev pub HasLexicalFault : List ℕ → Type 0
 HasLexicalFault bytes = (kind : FaultKind) × (line : ℕ) × IsLexicalFault bytes kind line
 
--- bytes have one of the three
+-- bytes have one of the two
 abbrev pub SomeAnswerLaw : Type 0
-SomeAnswerLaw = (bytes : List ℕ) → HasPlainOutline bytes ⊎ (HasLexicalFault bytes ⊎ IsFormNotBuilt bytes)
+SomeAnswerLaw = (bytes : List ℕ) → HasSomeOutline bytes ⊎ HasLexicalFault bytes

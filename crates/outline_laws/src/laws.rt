@@ -1,4 +1,4 @@
-ghost use Rattle.outline_laws.specs.Laws.{OneOutlineLaw, OneFaultLaw, NoFaultLaw, BuiltLaw, FaultOrFormLaw, SomeAnswerLaw};
+ghost use Rattle.outline_laws.specs.Laws.{OneOutlineLaw, OneFaultLaw, NoFaultLaw, SomeAnswerLaw};
 
 /// Bytes have one outline at most.
 pub fn one_outline_law()
@@ -10,14 +10,12 @@ pub fn one_fault_law()
     ensures { OneFaultLaw }
 {}
 
-/// An outline without patterns, a lexical fault and a form that isn't built exclude each other.
+/// An outline and a lexical fault exclude each other.
 pub fn apart_law()
-    ensures no_fault { NoFaultLaw }
-    ensures built { BuiltLaw }
-    ensures fault_or_form { FaultOrFormLaw }
+    ensures { NoFaultLaw }
 {}
 
-/// Bytes have one of the three.
+/// Bytes have one of the two.
 pub fn some_answer_law()
     ensures { SomeAnswerLaw }
 {}

@@ -5,6 +5,8 @@ use Rattle.std.specs.Fmt.{decimal}
 use Rattle.grammar_data.specs.Grammar.{Rule}
 use Rattle.grammar_data.specs.declared.rule.Sym.{Sym}
 use Rattle.grammar_data.specs.declared.rule.Sym.TheVariants.{Token, Name}
+use Rattle.pattern_data.specs.declared.pattern.Pattern.{Pattern}
+use Rattle.pattern_data.specs.Printing.{normal_spelling}
 use Rattle.sheet_data.specs.Sheet.{Sheet}
 use Rattle.sheet_data.specs.declared.parts.Decl.{Decl}
 use Rattle.sheet_data.specs.declared.parts.Decl.TheVariants.{Literal, Matched, Skip}
@@ -43,11 +45,18 @@ rule_lines sheet (rule ∷ rules) [] declares = []
 rule_lines sheet (rule ∷ rules) (template ∷ templates) [] = []
 rule_lines sheet (rule ∷ rules) (template ∷ templates) (marks ∷ declares) = rule_words sheet rule template marks ∷ rule_lines sheet rules templates declares
 
--- a line for each declaration; patterns are not read yet
+abbrev pub slash : ℕ
+slash = 47
+
+-- a pattern's normal spelling between slashes
+abbrev pub pattern_text : Pattern → List ℕ
+pattern_text pattern = slash ∷ (normal_spelling pattern ++ slash ∷ [])
+
+-- a line for each declaration
 abbrev pub decl_words : Decl → List (List ℕ)
 decl_words (Literal name bytes) = codes "%token" ∷ name ∷ escaped quote bytes ∷ []
-decl_words (Matched name pattern) = []
-decl_words (Skip pattern) = []
+decl_words (Matched name pattern) = codes "%token" ∷ name ∷ pattern_text pattern ∷ []
+decl_words (Skip pattern) = codes "%skip" ∷ pattern_text pattern ∷ []
 
 -- the declarations, the start, the mark, and the rules
 abbrev pub layout_lines : Sheet → List (List (List ℕ))

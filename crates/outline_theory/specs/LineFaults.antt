@@ -1,5 +1,8 @@
 -- The faults that an outline has on its lines, and the first of them.
 use Rattle.std.specs.Prelude.{◌≡◌, ◌≢◌, ℕ, suc, ◌-◌, ◌<◌, ◌⊎◌, List, [], length, Contains, Some, slice_get, take}
+use Rattle.pattern_data.specs.declared.pattern.Pattern.{Pattern}
+use Rattle.pattern_data.specs.Language.{Matches}
+use Rattle.pattern_data.specs.Spellings.{IsSpelling}
 use Rattle.outline_data.specs.declared.outline.Word.{Word}
 use Rattle.outline_data.specs.declared.outline.PlaceUse.{PlaceUse}
 use Rattle.outline_data.specs.declared.rules.Symbol.TheVariants.{Name}
@@ -7,7 +10,7 @@ use Rattle.outline_data.specs.declared.fault.SheetFault.{SheetFault}
 use Rattle.outline_data.specs.declared.fault.SheetFault.TheVariants.{BadPattern, PatternMatchesEmpty, Redeclared, UnknownSymbol, PlaceOutOfRange, PlaceTwice, NotAToken}
 use Rattle.outline_data.specs.AlternativeParts.{AlternativeParts}
 use Rattle.outline_data.specs.Parts.{OutlineParts}
-use Rattle.outline_theory.specs.Words.{texts, token_words, literal_words, StartUse, starts, left_words, alternatives_of, side_names, all_literals, template_uses, token_uses, all_uses, places}
+use Rattle.outline_theory.specs.Words.{texts, token_words, literal_words, pattern_words, StartUse, starts, left_words, alternatives_of, side_names, all_literals, template_uses, token_uses, all_uses, places}
 use Rattle.outline_theory.specs.Keys.{IsNoLater}
 
 -- the word is that of a declared token
@@ -45,8 +48,12 @@ pub record IsNameAt (o : OutlineParts) (a : AlternativeParts) (place : ℕ) : Ty
 pub data HasLineFault (o : OutlineParts) : SheetFault → Type 0 where
   -- a literal has a line feed
   line_feed : {word : Word} → Contains (all_literals o) word → Contains word.bytes 10 → HasLineFault o (BadPattern word.line)
+  -- the text of a pattern spells none
+  no_spelling : {word : Word} → Contains (pattern_words o) word → ((pattern : Pattern) → ¬ (IsSpelling word.bytes pattern)) → HasLineFault o (BadPattern word.line)
   -- a literal is empty
   empty_literal : {word : Word} → Contains (all_literals o) word → word.bytes ≡ [] → HasLineFault o (PatternMatchesEmpty word.line)
+  -- a pattern has the empty string
+  empty_pattern : {word : Word} {pattern : Pattern} → Contains (pattern_words o) word → IsSpelling word.bytes pattern → Matches pattern [] → HasLineFault o (PatternMatchesEmpty word.line)
   -- a token's name is declared again, a literal is named again, there is a second start, or a left side is a token
   name_again : {word : Word} → StandsAgain (token_words o) word → HasLineFault o (Redeclared word.line)
   literal_again : {word : Word} → StandsAgain (literal_words o) word → HasLineFault o (Redeclared word.line)

@@ -5,9 +5,11 @@ use Rattle.std.specs.Str.{bytes_eq}
 use Rattle.grammar_data.specs.Grammar.{Rule}
 use Rattle.grammar_data.specs.declared.rule.Sym.{Sym}
 use Rattle.grammar_data.specs.declared.rule.Sym.TheVariants.{Token as token_symbol, Name as name_symbol}
+use Rattle.pattern_data.specs.declared.pattern.Pattern.{Pattern}
+use Rattle.pattern_data.specs.Spellings.{IsSpelling}
 use Rattle.sheet_data.specs.Sheet.{Sheet}
 use Rattle.sheet_data.specs.declared.parts.Decl.{Decl}
-use Rattle.sheet_data.specs.declared.parts.Decl.TheVariants.{Literal as literal_decl}
+use Rattle.sheet_data.specs.declared.parts.Decl.TheVariants.{Literal as literal_decl, Matched as matched_decl, Skip as skip_decl}
 use Rattle.sheet_data.specs.declared.parts.Part.{Part}
 use Rattle.sheet_data.specs.declared.parts.Part.TheVariants.{Text as text_of, Fold as fold_of, Number as number_of}
 use Rattle.outline_data.specs.declared.outline.Word.{Word}
@@ -101,10 +103,12 @@ template_of a = template_by a.template (length a.right)
 abbrev pub declares_of : AlternativeParts → List ℕ
 declares_of a = places a.marks
 
--- the declarations that a sheet keeps: all but those of the start; patterns are not read yet
+-- the declarations that a sheet keeps: all but those of the start; a pattern is the one that its text spells
 pub data AreDecls : List Declaration → List Decl → Type 0 where
   no_decl : AreDecls [] []
   literal_first : {name literal : Word} {declarations : List Declaration} {decls all : List Decl} → AreDecls declarations decls → all ≡ literal_decl name.bytes literal.bytes ∷ decls → AreDecls (Literal name literal ∷ declarations) all
+  matched_first : {name word : Word} {pattern : Pattern} {declarations : List Declaration} {decls all : List Decl} → IsSpelling word.bytes pattern → AreDecls declarations decls → all ≡ matched_decl name.bytes pattern ∷ decls → AreDecls (Matched name word ∷ declarations) all
+  skip_first : {word : Word} {pattern : Pattern} {declarations : List Declaration} {decls all : List Decl} → IsSpelling word.bytes pattern → AreDecls declarations decls → all ≡ skip_decl pattern ∷ decls → AreDecls (Skip word ∷ declarations) all
   start_first : {line : ℕ} {name : Word} {declarations : List Declaration} {decls : List Decl} → AreDecls declarations decls → AreDecls (Start line name ∷ declarations) decls
 
 pub record IsSheetOf (o : OutlineParts) (sheet : Sheet) : Type 0 where

@@ -1,14 +1,11 @@
 -- How bytes are an outline, and where they stop being one: the first fault of the reading from left to right.
-use Rattle.std.specs.Prelude.{◌≡◌, ◌≢◌, ℕ, true, List, [], ◌∷◌, ◌++◌, length, map, All, MatchBool}
+use Rattle.std.specs.Prelude.{◌≡◌, ℕ, true, List, [], ◌∷◌, ◌++◌, length, map, MatchBool}
 use Rattle.lexeme_theory.specs.declared.lexeme.Lexeme.{Lexeme}
-use Rattle.lexeme_theory.specs.declared.lexeme.Lexeme.TheVariants.{Pattern}
 use Rattle.lexeme_theory.specs.declared.found.FaultKind.{FaultKind}
 use Rattle.lexeme_theory.specs.declared.found.FaultKind.TheVariants.{Syntax}
 use Rattle.lexeme_theory.specs.Lines.{line_of}
 use Rattle.lexeme_theory.specs.Stands.{IsLexeme, BeginsFault}
 use Rattle.lexeme_theory.specs.Reading.{Placed, placed_in, AreLexemes}
-use Rattle.outline_data.specs.declared.outline.Declaration.{Declaration}
-use Rattle.outline_data.specs.declared.outline.Declaration.TheVariants.{Literal, Matched, Skip, Start}
 use Rattle.outline_data.specs.Parts.{OutlineParts}
 use Rattle.outline_theory.specs.Spelling.{Kept, kept, spelled_outline, IsShaped}
 
@@ -48,38 +45,12 @@ pub data IsWrongAt (bytes : List ℕ) (lexemes : List Kept) (at : ℕ) : FaultKi
   no_sheet_goes_on : {lexeme : Lexeme} {next : ℕ} → IsLexeme bytes at lexeme next → ¬ (BeginsSheet (lexemes ++ kept (placed_in bytes at lexeme) ∷ [])) → IsWrongAt bytes lexemes at Syntax
   no_whole_sheet : at ≡ length bytes → ¬ (IsWholeSheet lexemes) → IsWrongAt bytes lexemes at Syntax
 
--- a lexeme other than a pattern
-abbrev pub IsPlainLexeme : Placed → Type 0
-IsPlainLexeme placed = (text : List ℕ) → placed.lexeme ≢ Pattern text
-
--- some sheet begins with the lexemes before the place, none of which ended it, and then this is wrong; patterns are not
--- read yet, and none stands before it
+-- some sheet begins with the lexemes before the place, none of which ended it, and then this is wrong
 pub record IsLexicalFault (bytes : List ℕ) (kind : FaultKind) (line : ℕ) : Type 0 where
   pub lexemes : List Placed
   pub at : ℕ
   pub read : AreLexemes bytes 0 lexemes at
   pub begins : BeginsSheet (map kept lexemes)
   pub not_ended : ¬ (IsEnded (map kept lexemes))
-  pub plain : All IsPlainLexeme lexemes
   pub wrong : IsWrongAt bytes (map kept lexemes) at kind
   pub on : line ≡ line_of bytes at
-
--- a pattern stands at a place, and some sheet goes on with it
-pub record IsFormNotBuilt (bytes : List ℕ) : Type 0 where
-  pub lexemes : List Placed
-  pub at : ℕ
-  pub read : AreLexemes bytes 0 lexemes at
-  pub text : List ℕ
-  pub next : ℕ
-  pub stands : IsLexeme bytes at (Pattern text) next
-  pub begins : BeginsSheet (map kept (lexemes ++ placed_in bytes at (Pattern text) ∷ []))
-
--- a declaration without a pattern
-abbrev pub IsPlainDeclaration : Declaration → Type 0
-IsPlainDeclaration (Literal name literal) = Unit {0}
-IsPlainDeclaration (Matched name pattern) = ⊥
-IsPlainDeclaration (Skip pattern) = ⊥
-IsPlainDeclaration (Start line name) = Unit {0}
-
-abbrev pub IsPlain : OutlineParts → Type 0
-IsPlain outline = All IsPlainDeclaration outline.declarations

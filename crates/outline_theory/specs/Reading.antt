@@ -4,18 +4,17 @@ use Rattle.lexeme_theory.specs.declared.found.FaultKind.TheVariants.{BadByte as 
 use Rattle.sheet_data.specs.Sheet.{Sheet}
 use Rattle.outline_data.specs.declared.fault.LimitKind.TheVariants.{SheetBytes}
 use Rattle.outline_data.specs.declared.fault.SheetFault.{SheetFault}
-use Rattle.outline_data.specs.declared.fault.SheetFault.TheVariants.{BadByte, Syntax, FormNotBuilt, NoRules, Limit}
+use Rattle.outline_data.specs.declared.fault.SheetFault.TheVariants.{BadByte, Syntax, NoRules, Limit}
 use Rattle.outline_data.specs.Parts.{OutlineParts}
-use Rattle.outline_theory.specs.Outlines.{IsOutlineOf, IsLexicalFault, IsFormNotBuilt, IsPlain}
+use Rattle.outline_theory.specs.Outlines.{IsOutlineOf, IsLexicalFault}
 use Rattle.outline_theory.specs.LineFaults.{HasLineFault, IsFirstLineFault}
 use Rattle.outline_theory.specs.Numbering.{IsSheetOf}
 use Rattle.outline_theory.specs.Limits.{sheet_limit, Measure, measures, first_passed}
 
--- the bytes are an outline with rules, and without patterns, which are not read yet
+-- the bytes are no more than a sheet may have, and they are the outline
 pub record HasOutline (bytes : List ℕ) (outline : OutlineParts) : Type 0 where
   pub size : length bytes ≤ sheet_limit
   pub of : IsOutlineOf bytes outline
-  pub plain : IsPlain outline
 
 -- an outline with rules and without faults on its lines
 pub record IsFaultless (outline : OutlineParts) : Type 0 where
@@ -36,7 +35,6 @@ pub data IsFirstFault (bytes : List ℕ) : SheetFault → Type 0 where
   too_long : sheet_limit < length bytes → IsFirstFault bytes (Limit SheetBytes 262145)
   bad_byte : {line : ℕ} → length bytes ≤ sheet_limit → IsLexicalFault bytes bad_byte_kind line → IsFirstFault bytes (BadByte line)
   syntax : {line : ℕ} → length bytes ≤ sheet_limit → IsLexicalFault bytes syntax_kind line → IsFirstFault bytes (Syntax line)
-  form_not_built : length bytes ≤ sheet_limit → IsFormNotBuilt bytes → IsFirstFault bytes FormNotBuilt
   no_rules : {outline : OutlineParts} → HasOutline bytes outline → outline.groups ≡ [] → IsFirstFault bytes NoRules
   on_line : {outline : OutlineParts} {fault : SheetFault} → HasOutline bytes outline → outline.groups ≢ [] → IsFirstLineFault outline fault → IsFirstFault bytes fault
   limit : {outline : OutlineParts} {sheet : Sheet} {measure : Measure} → HasOutline bytes outline → IsFaultless outline → IsSheetOf outline sheet → first_passed (measures sheet) ≡ Some measure → IsFirstFault bytes (Limit measure.kind measure.count)

@@ -36,6 +36,16 @@ literal_in (Start line name) = []
 abbrev pub literal_words : OutlineParts → List Word
 literal_words o = flat_map literal_in o.declarations
 
+-- the spellings of patterns, of tokens and of skips
+abbrev pub pattern_in : Declaration → List Word
+pattern_in (Literal name literal) = []
+pattern_in (Matched name pattern) = pattern ∷ []
+pattern_in (Skip pattern) = pattern ∷ []
+pattern_in (Start line name) = []
+
+abbrev pub pattern_words : OutlineParts → List Word
+pattern_words o = flat_map pattern_in o.declarations
+
 -- a directive `%start`: its line, and the name behind it
 pub record StartUse : Type 0 where
   pub line : ℕ

@@ -5,3 +5,4 @@ pub mod MatchLemmas
 pub mod PartLemmas
 pub mod StateLemmas
 pub mod StepLemmas
+pub mod SpellingLemmas

@@ -1,11 +1,11 @@
 -- A position of a literal is reached by one string alone.
-use Rattle.std.proofs.Common.{◌≡◌, ℕ, zero, suc, ◌+◌, ◌-◌, ◌<◌, ◌≤◌, List, [], ◌∷◌, ◌++◌, map, length, take, refl, sym, ap, ◌∙◌, subst, arith}
+use Rattle.std.proofs.Common.{◌≡◌, ℕ, suc, ◌+◌, ◌-◌, ◌≤◌, List, [], ◌∷◌, ◌++◌, map, length, take, refl, sym, ap, ◌∙◌, subst, arith}
 use Rattle.std.specs.Prelude.{slice_get, Some, All}
 use Rattle.std.proofs.lemmas.List.Elements.{All-head, All-tail}
-use Rattle.pattern_data.specs.declared.pattern.Pattern.{Pattern, out-Pattern}
+use Rattle.pattern_data.specs.declared.pattern.Pattern.{Pattern}
 use Rattle.pattern_data.specs.declared.pattern.Pattern.TheVariants.{Seq as seq_pattern, outs-Set, outs-Seq}
 use Rattle.pattern_data.specs.Bytes.{IsMember, only_byte}
-use Rattle.pattern_data.specs.Language.{IsLiteralByte, IsLiteral, byte_pattern, literal_pattern, positions_of}
+use Rattle.pattern_data.specs.Language.{IsLiteralByte, IsLiteral, byte_pattern, literal_pattern}
 use Rattle.pattern_data.proofs.ByteLemmas.{only_byte-member}
 use Rattle.pattern_data.proofs.LanguageLemmas.{byte_pattern-match}
 use Rattle.position_theory.specs.Positions.{count_all, IsSet, IsSequence, Reaches, ReachesInOrder, ReachesOne}
@@ -14,7 +14,7 @@ use Rattle.position_theory.specs.Positions.HasInner.{loop_inner, option_inner}
 use Rattle.position_theory.specs.Positions.Reaches.{by_byte, in_sequence, in_choice, in_loop, in_option}
 use Rattle.position_theory.specs.Positions.ReachesInOrder.{reaches_first, reaches_behind}
 use Rattle.position_theory.specs.Positions.ReachesOne.{reaches_this, reaches_later}
-use Rattle.position_theory.specs.States.{HaveSameSet, HaveDifferentSets, HasMoreStates}
+use Rattle.position_theory.specs.States.{HaveSameSet, HaveDifferentSets}
 use Rattle.position_theory.specs.Literals.{IsLiteralPattern, LiteralStatesLaw}
 use Rattle.position_theory.proofs.LayerLemmas.{set_no_members, set_no_inner, sets_same, count_set, sum_counts}
 use Rattle.position_theory.proofs.BoundLemmas.{order_below, one_reached_below}

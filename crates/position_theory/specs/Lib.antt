@@ -1,3 +1,4 @@
 pub mod Literals
 pub mod Positions
 pub mod States
+pub mod Bounds

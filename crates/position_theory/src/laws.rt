@@ -1,3 +1,4 @@
+ghost use Rattle.position_theory.specs.Bounds.{SpellingPositionsLaw};
 ghost use Rattle.position_theory.specs.Literals.{LiteralStatesLaw};
 ghost use Rattle.position_theory.specs.States.{FrontLaw, MatchLaw, MoreStatesLaw, SameStepLaw, SomeByteLaw, StepLaw};
 
@@ -34,4 +35,9 @@ pub fn more_states_law()
 /// Literals have no more states than positions, and the start.
 pub fn literal_states_law()
     ensures { LiteralStatesLaw }
+{}
+
+/// A pattern has no more positions than each of its spellings has bytes.
+pub fn spelling_positions_law()
+    ensures { SpellingPositionsLaw }
 {}

@@ -5,5 +5,5 @@ mod laws;
 
 pub use laws::{
     front_law, literal_states_law, match_law, more_states_law, same_step_law, some_byte_law,
-    step_law,
+    spelling_positions_law, step_law,
 };

@@ -8,15 +8,15 @@ use Rattle.sheet_data.specs.Sheet.{Sheet}
 use Rattle.outline_data.specs.declared.fault.SheetFault.{SheetFault}
 use Rattle.outline_data.specs.GroupParts.{GroupParts}
 use Rattle.outline_data.specs.Parts.{OutlineParts}
-use Rattle.outline_theory.specs.Outlines.{IsLexicalFault, IsFormNotBuilt}
+use Rattle.outline_theory.specs.Outlines.{IsLexicalFault}
 use Rattle.outline_theory.specs.Numbering.{IsSheetOf}
 use Rattle.outline_theory.specs.Limits.{sheet_limit, Measure, measures, first_passed}
 use Rattle.outline_theory.specs.Reading.{HasOutline, IsFaultless, Reads, IsFirstFault}
-use Rattle.outline_theory.specs.Reading.IsFirstFault.{too_long, bad_byte, syntax, form_not_built, no_rules, on_line, limit}
-use Rattle.outline_laws.specs.Laws.{HasPlainOutline, HasLexicalFault}
+use Rattle.outline_theory.specs.Reading.IsFirstFault.{too_long, bad_byte, syntax, no_rules, on_line, limit}
+use Rattle.outline_laws.specs.Laws.{HasSomeOutline, HasLexicalFault}
 use Rattle.outline_laws.proofs.AnswerLemmas.{some_answer}
 use Rattle.sheet_laws.proofs.LineFaults.{FirstOrNone, first_or_none}
-use Rattle.sheet_laws.proofs.SheetLemmas.{sheet_some}
+use Rattle.sheet_laws.proofs.SheetLemmas.{some_sheet}
 
 module _ (bytes : List ℕ) (unread : (sheet : Sheet) → Reads bytes sheet → ⊥) (faultless : (fault : SheetFault) → IsFirstFault bytes fault → ⊥) where
   by_limits : (o : OutlineParts) (sheet : Sheet) (passed : Option Measure) → HasOutline bytes o → IsFaultless o → IsSheetOf o sheet → first_passed (measures sheet) ≡ passed → ⊥
@@ -25,7 +25,9 @@ module _ (bytes : List ℕ) (unread : (sheet : Sheet) → Reads bytes sheet → 
 
   by_lines : (o : OutlineParts) → HasOutline bytes o → o.groups ≢ [] → FirstOrNone o → ⊥
   by_lines o has some (inl first) = faultless first.0 (on_line has some first.1)
-  by_lines o has some (inr none) = let sheet = sheet_some o has.plain in by_limits o sheet.0 (first_passed (measures sheet.0)) has (record { rules = some; none = none }) sheet.1 refl
+  by_lines o has some (inr none) =
+      let clean : IsFaultless o = record { rules = some; none = none } in
+      some_sheet o clean (λ sheet says. by_limits o sheet (first_passed (measures sheet)) has clean says refl)
 
   by_rules : (o : OutlineParts) (groups : List GroupParts) → HasOutline bytes o → o.groups ≡ groups → ⊥
   by_rules o [] has e = faultless _ (no_rules has e)
@@ -37,10 +39,9 @@ module _ (bytes : List ℕ) (unread : (sheet : Sheet) → Reads bytes sheet → 
   by_kind bad_byte_kind line size h = faultless _ (bad_byte size h)
   by_kind syntax_kind line size h = faultless _ (syntax size h)
 
-  by_answer : length bytes ≤ sheet_limit → HasPlainOutline bytes ⊎ (HasLexicalFault bytes ⊎ IsFormNotBuilt bytes) → ⊥
-  by_answer size (inl h) = by_rules h.0 h.0.groups (record { size = size; of = h.1; plain = h.2 }) refl
-  by_answer size (inr (inl h)) = by_kind h.0 h.1 size h.2
-  by_answer size (inr (inr form)) = faultless _ (form_not_built size form)
+  by_answer : length bytes ≤ sheet_limit → HasSomeOutline bytes ⊎ HasLexicalFault bytes → ⊥
+  by_answer size (inl h) = by_rules h.0 h.0.groups (record { size = size; of = h.1 }) refl
+  by_answer size (inr h) = by_kind h.0 h.1 size h.2
 
   pub some_sheet_or_fault : ⊥
   some_sheet_or_fault = ⊎_elim (λ long. faultless _ (too_long long)) (λ short. by_answer (omega (arith, short)) (some_answer bytes)) (cases_lt sheet_limit (length bytes))

@@ -7,15 +7,15 @@ use Rattle.lexeme_theory.specs.declared.found.FaultKind.TheVariants.{BadByte as 
 use Rattle.sheet_data.specs.Sheet.{Sheet}
 use Rattle.outline_data.specs.declared.fault.LimitKind.TheVariants.{SheetBytes}
 use Rattle.outline_data.specs.declared.fault.SheetFault.{SheetFault}
-use Rattle.outline_data.specs.declared.fault.SheetFault.TheVariants.{BadByte, Syntax, FormNotBuilt, NoRules, Limit}
+use Rattle.outline_data.specs.declared.fault.SheetFault.TheVariants.{BadByte, Syntax, NoRules, Limit}
 use Rattle.outline_data.specs.Parts.{OutlineParts}
-use Rattle.outline_theory.specs.Outlines.{IsLexicalFault, IsFormNotBuilt}
+use Rattle.outline_theory.specs.Outlines.{IsLexicalFault}
 use Rattle.outline_theory.specs.LineFaults.{IsFirstLineFault}
 use Rattle.outline_theory.specs.Numbering.{IsSheetOf}
 use Rattle.outline_theory.specs.Limits.{sheet_limit, Measure, measures, first_passed}
 use Rattle.outline_theory.specs.Reading.{HasOutline, IsFaultless, Reads, IsFirstFault}
-use Rattle.outline_theory.specs.Reading.IsFirstFault.{too_long, bad_byte, syntax, form_not_built, no_rules, on_line, limit}
-use Rattle.outline_laws.proofs.ApartLemmas.{one_outline, one_fault, no_fault, built, fault_or_form}
+use Rattle.outline_theory.specs.Reading.IsFirstFault.{too_long, bad_byte, syntax, no_rules, on_line, limit}
+use Rattle.outline_laws.proofs.ApartLemmas.{one_outline, one_fault, no_fault}
 use Rattle.sheet_laws.proofs.LineFaults.{one_line_fault}
 use Rattle.sheet_laws.proofs.SheetLemmas.{sheet_once}
 
@@ -33,14 +33,12 @@ data OutlineFault (o : OutlineParts) (fault : SheetFault) : Type 0 where
 data Cause (bytes : List ℕ) (fault : SheetFault) : Type 0 where
   by_size : sheet_limit < length bytes → fault ≡ Limit SheetBytes 262145 → Cause bytes fault
   by_lexemes : (kind : FaultKind) (line : ℕ) → length bytes ≤ sheet_limit → IsLexicalFault bytes kind line → fault ≡ lexical_fault kind line → Cause bytes fault
-  by_form : length bytes ≤ sheet_limit → IsFormNotBuilt bytes → fault ≡ FormNotBuilt → Cause bytes fault
   by_outline : (o : OutlineParts) → HasOutline bytes o → OutlineFault o fault → Cause bytes fault
 
 cause : (bytes : List ℕ) {fault : SheetFault} → IsFirstFault bytes fault → Cause bytes fault
 cause bytes (too_long size) = Cause.by_size size refl
 cause bytes (bad_byte {line = line} size h) = Cause.by_lexemes bad_byte_kind line size h refl
 cause bytes (syntax {line = line} size h) = Cause.by_lexemes syntax_kind line size h refl
-cause bytes (form_not_built size h) = Cause.by_form size h refl
 cause bytes (no_rules {outline = o} h none) = Cause.by_outline o h (OutlineFault.without_rules none refl)
 cause bytes (on_line {outline = o} h some first) = Cause.by_outline o h (OutlineFault.first_on_line some first)
 cause bytes (limit {outline = o} h faultless is passed) = Cause.by_outline o h (OutlineFault.first_limit faultless is passed refl)
@@ -67,21 +65,14 @@ module _ (bytes : List ℕ) where
   cause_once : (f g : SheetFault) → Cause bytes f → Cause bytes g → f ≡ g
   cause_once f g (Cause.by_size long is) (Cause.by_size other_long other_is) = is ∙ sym other_is
   cause_once f g (Cause.by_size long is) (Cause.by_lexemes kind line size h other_is) = absurd (long_apart long size)
-  cause_once f g (Cause.by_size long is) (Cause.by_form size h other_is) = absurd (long_apart long size)
   cause_once f g (Cause.by_size long is) (Cause.by_outline o has h) = absurd (long_apart long has.size)
   cause_once f g (Cause.by_lexemes kind line size h is) (Cause.by_size long other_is) = absurd (long_apart long size)
   cause_once f g (Cause.by_lexemes kind line size h is) (Cause.by_lexemes other other_line other_size k other_is) =
       let same = one_fault bytes kind other line other_line h k in
       is ∙ ap (λ l. lexical_fault l line) same.0 ∙ ap (λ n. lexical_fault other n) same.1 ∙ sym other_is
-  cause_once f g (Cause.by_lexemes kind line size h is) (Cause.by_form other_size form other_is) = absurd (fault_or_form bytes kind line h form)
   cause_once f g (Cause.by_lexemes kind line size h is) (Cause.by_outline o has k) = absurd (no_fault bytes o kind line has.of h)
-  cause_once f g (Cause.by_form size form is) (Cause.by_size long other_is) = absurd (long_apart long size)
-  cause_once f g (Cause.by_form size form is) (Cause.by_lexemes kind line other_size h other_is) = absurd (fault_or_form bytes kind line h form)
-  cause_once f g (Cause.by_form size form is) (Cause.by_form other_size other_form other_is) = is ∙ sym other_is
-  cause_once f g (Cause.by_form size form is) (Cause.by_outline o has h) = absurd (built bytes o has.of has.plain form)
   cause_once f g (Cause.by_outline o has h) (Cause.by_size long is) = absurd (long_apart long has.size)
   cause_once f g (Cause.by_outline o has h) (Cause.by_lexemes kind line size k is) = absurd (no_fault bytes o kind line has.of k)
-  cause_once f g (Cause.by_outline o has h) (Cause.by_form size form is) = absurd (built bytes o has.of has.plain form)
   cause_once f g (Cause.by_outline o has h) (Cause.by_outline p other_has k) =
       let same : p ≡ o = one_outline bytes p o other_has.of has.of in
       outline_once o f g h (subst (λ q. OutlineFault q g) same k)
@@ -100,7 +91,6 @@ module _ (bytes : List ℕ) where
   sound : (sheet : Sheet) (f : SheetFault) → Reads bytes sheet → Cause bytes f → ⊥
   sound sheet f h (Cause.by_size long is) = long_apart long h.has.size
   sound sheet f h (Cause.by_lexemes kind line size k is) = no_fault bytes h.outline kind line h.has.of k
-  sound sheet f h (Cause.by_form size form is) = built bytes h.outline h.has.of h.has.plain form
   sound sheet f h (Cause.by_outline o has k) =
       let same : o ≡ h.outline = one_outline bytes o h.outline has.of h.has.of in
       outline_sound h.outline sheet f h.faultless h.says h.within (subst (λ q. OutlineFault q f) same k)

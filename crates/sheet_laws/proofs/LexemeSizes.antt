@@ -1,4 +1,4 @@
--- The bytes of a literal are written by at least as many bytes.
+-- The bytes of a literal or of a pattern's text are written by at least as many bytes.
 use Rattle.std.proofs.Common.{◌≡◌, ℕ, ◌+◌, ◌-◌, ◌≤◌, Bool, true, false, cond, List, [], ◌∷◌, length, refl, sym, subst, inl, inr, arith}
 use Rattle.std.specs.Prelude.{MatchBool, nat_lt, nat_le, map, min, drop, slice_range, ◌⊎◌}
 use Rattle.std.proofs.lemmas.List.{length-take}
@@ -20,7 +20,7 @@ use Rattle.lexeme_theory.proofs.EndLemmas.{found_ends}
 use Rattle.lexeme_theory.proofs.ReadingLemmas.{blank_on}
 use Rattle.outline_theory.specs.Spelling.{Kept, kept}
 
--- the length of a literal's bytes; 0 of any other lexeme
+-- the length of a literal's bytes, or of a pattern's text; 0 of any other lexeme
 abbrev pub size : Lexeme → ℕ
 size (Name bytes) = 0
 size (Number n) = 0
@@ -28,7 +28,7 @@ size (Fold n) = 0
 size (NumberOf n) = 0
 size (Quoted bytes) = length bytes
 size (Text bytes) = 0
-size (Pattern bytes) = 0
+size (Pattern bytes) = length bytes
 size (directive_lexeme directive) = 0
 size Mark = 0
 size (single_lexeme single) = 0
@@ -46,13 +46,13 @@ spells_within {text = text} {bytes = all} (byte_and {byte = byte} {rest = rest} 
     let P : List ℕ → Type 0 = λ l. length l ≤ length text in
     subst P (sym is) (omega (arith, less, later))
 
--- there is room for the literal
+-- there is room for the bytes
 abbrev HasRoom : ℕ → Found → Type 0
 HasRoom at (blank_found next) = Unit {0}
 HasRoom at (lexeme_found lexeme next) = at + size lexeme ≤ next
 HasRoom at (fault_found kind) = Unit {0}
 
--- no literal is found
+-- no literal and no pattern is found
 abbrev IsNoLiteral : Found → Type 0
 IsNoLiteral (blank_found next) = Unit {0}
 IsNoLiteral (lexeme_found lexeme next) = size lexeme ≡ 0
@@ -90,7 +90,13 @@ range_within bytes from to ordered =
     let e : length (slice_range bytes from to) ≡ min (to - from) (length (drop from bytes)) = length-take (to - from) (drop from bytes) in
     omega (arith, e, ordered)
 
-no_literal : (begin : Begin) (bytes : List ℕ) (at : ℕ) (found : Found) → (begin ≡ quoted_begins → ⊥) → IsFoundBy begin bytes at found → IsNoLiteral found
+-- no literal and no pattern begins
+abbrev IsBare : Begin → Type 0
+IsBare quoted_begins = ⊥
+IsBare pattern_begins = ⊥
+IsBare begin = Unit {0}
+
+no_literal : (begin : Begin) (bytes : List ℕ) (at : ℕ) (found : Found) → IsBare begin → IsFoundBy begin bytes at found → IsNoLiteral found
 no_literal blank_begins bytes at found not is = is_as IsNoLiteral found _ is tt
 no_literal line_comment_begins bytes at found not (to, run, is) = is_as IsNoLiteral found _ is tt
 no_literal block_comment_begins bytes at found not (to, run, is) = is_as IsNoLiteral found _ is (by_cond IsNoLiteral (nat_lt to (length bytes)) (blank_found (to + 2)) syntax_fault tt tt)
@@ -98,11 +104,10 @@ no_literal name_begins bytes at found not (to, run, is) = is_as IsNoLiteral foun
 no_literal number_begins bytes at found not (to, run, is) = is_as IsNoLiteral found _ is (by_cond IsNoLiteral (nat_le (to - at) 9) (lexeme_found (Number _) to) syntax_fault refl tt)
 no_literal fold_begins bytes at found not (to, run, is) = is_as IsNoLiteral found _ is (by_cond IsNoLiteral (nat_le (to - (at + 1)) 9) (lexeme_found (Fold _) to) syntax_fault refl tt)
 no_literal number_of_begins bytes at found not (to, run, is) = is_as IsNoLiteral found _ is (by_cond IsNoLiteral (nat_le (to - (at + 1)) 9) (lexeme_found (NumberOf _) to) syntax_fault refl tt)
-no_literal quoted_begins bytes at found not is = absurd (not refl)
+no_literal quoted_begins bytes at found not is = absurd not
 no_literal text_begins bytes at found not (to, run, is) =
     text_is IsNoLiteral (IsSpelledFound Text (slice_range bytes (at + 1) to) (to + 1)) 34 bytes (at + 1) to found tt tt (λ closed. spelled_is IsNoLiteral Text (slice_range bytes (at + 1) to) (to + 1) found tt (λ b s. refl) closed) is
-no_literal pattern_begins bytes at found not (to, run, is) =
-    text_is IsNoLiteral (λ f. f ≡ lexeme_found (Pattern (slice_range bytes (at + 1) to)) (to + 1)) 47 bytes (at + 1) to found tt tt (λ closed. is_as IsNoLiteral found _ closed refl) is
+no_literal pattern_begins bytes at found not is = absurd not
 no_literal directive_begins bytes at found not (to, run, is) = directive_is _ to found is
 no_literal mark_begins bytes at found not is = is_as IsNoLiteral found _ is refl
 no_literal (single_begins single) bytes at found not is = is_as IsNoLiteral found _ is refl
@@ -116,19 +121,30 @@ quoted_room bytes at found (to, run, is) =
     text_is (HasRoom at) (IsSpelledFound Quoted (slice_range bytes (at + 1) to) (to + 1)) 39 bytes (at + 1) to found tt tt
     (λ closed. spelled_is (HasRoom at) Quoted (slice_range bytes (at + 1) to) (to + 1) found tt (λ b s. let h = spells_within s in omega (arith, within, h)) closed) is
 
-quoted_or_not : (begin : Begin) → (begin ≡ quoted_begins) ⊎ (begin ≡ quoted_begins → ⊥)
-quoted_or_not quoted_begins = inl refl
-quoted_or_not begin = inr (λ e. (cc))
+pattern_room : (bytes : List ℕ) (at : ℕ) (found : Found) → IsFoundBy pattern_begins bytes at found → HasRoom at found
+pattern_room bytes at found (to, run, is) =
+    let ordered : at + 1 ≤ to = run.ordered in
+    let within = range_within bytes (at + 1) to ordered in
+    text_is (HasRoom at) (λ f. f ≡ lexeme_found (Pattern (slice_range bytes (at + 1) to)) (to + 1)) 47 bytes (at + 1) to found tt tt (λ closed. is_as (HasRoom at) found _ closed (omega (arith, within))) is
 
-lexeme_by : (bytes : List ℕ) (at : ℕ) (lexeme : Lexeme) (next : ℕ) → IsLexeme bytes at lexeme next → (begin_at bytes at ≡ quoted_begins) ⊎ (begin_at bytes at ≡ quoted_begins → ⊥) → at + size lexeme ≤ next
+abbrev BeginsBytes : Begin → Type 0
+BeginsBytes begin = (begin ≡ quoted_begins) ⊎ ((begin ≡ pattern_begins) ⊎ IsBare begin)
+
+begins_bytes : (begin : Begin) → BeginsBytes begin
+begins_bytes quoted_begins = inl refl
+begins_bytes pattern_begins = inr (inl refl)
+begins_bytes begin = inr (inr tt)
+
+lexeme_by : (bytes : List ℕ) (at : ℕ) (lexeme : Lexeme) (next : ℕ) → IsLexeme bytes at lexeme next → BeginsBytes (begin_at bytes at) → at + size lexeme ≤ next
+lexeme_by bytes at lexeme next h (inr (inl pattern)) = pattern_room bytes at (lexeme_found lexeme next) (subst (λ b. IsFoundBy b bytes at (lexeme_found lexeme next)) pattern h.by)
 lexeme_by bytes at lexeme next h (inl quoted) = quoted_room bytes at (lexeme_found lexeme next) (subst (λ b. IsFoundBy b bytes at (lexeme_found lexeme next)) quoted h.by)
-lexeme_by bytes at lexeme next h (inr other) =
+lexeme_by bytes at lexeme next h (inr (inr other)) =
     let none : size lexeme ≡ 0 = no_literal (begin_at bytes at) bytes at (lexeme_found lexeme next) other h.by in
     let ends = (found_ends bytes at (lexeme_found lexeme next) h).0 in
     omega (arith, none, ends)
 
 pub lexeme_within : (bytes : List ℕ) (at : ℕ) (lexeme : Lexeme) (next : ℕ) → IsLexeme bytes at lexeme next → at + size lexeme ≤ next
-lexeme_within bytes at lexeme next h = lexeme_by bytes at lexeme next h (quoted_or_not (begin_at bytes at))
+lexeme_within bytes at lexeme next h = lexeme_by bytes at lexeme next h (begins_bytes (begin_at bytes at))
 
 -- lexemes don't overlap
 pub lexemes_within : (bytes : List ℕ) {from to : ℕ} {lexemes : List Placed} → AreLexemes bytes from lexemes to → from + sizes (map kept lexemes) ≤ to

@@ -4,7 +4,7 @@ use Rattle.std.specs.Prelude.{◌⊎◌}
 use Rattle.std.proofs.lemmas.Bool.{cases_lt}
 use Rattle.scanning_theory.proofs.NotRefuted.{NotRefuted, HasLeast, decided, least}
 use Rattle.outline_data.specs.declared.fault.SheetFault.{SheetFault}
-use Rattle.outline_data.specs.declared.fault.SheetFault.TheVariants.{BadByte, Syntax, FormNotBuilt, BadPattern, PatternMatchesEmpty, Redeclared, UnknownSymbol, NoRules, PlaceOutOfRange, PlaceTwice, NotAToken, Limit, NoMemory}
+use Rattle.outline_data.specs.declared.fault.SheetFault.TheVariants.{BadByte, Syntax, BadPattern, PatternMatchesEmpty, Redeclared, UnknownSymbol, NoRules, PlaceOutOfRange, PlaceTwice, NotAToken, Limit, NoMemory}
 use Rattle.outline_data.specs.Parts.{OutlineParts}
 use Rattle.outline_theory.specs.Keys.{fault_line, fault_number, IsNoLater}
 use Rattle.outline_theory.specs.LineFaults.{HasLineFault, IsFirstLineFault}
@@ -16,7 +16,9 @@ by_key number line =
 
 has_key : (o : OutlineParts) (f : SheetFault) → HasLineFault o f → f ≡ by_key (fault_number f) (fault_line f)
 has_key o _ (HasLineFault.line_feed h feed) = refl
+has_key o _ (HasLineFault.no_spelling h none) = refl
 has_key o _ (HasLineFault.empty_literal h none) = refl
+has_key o _ (HasLineFault.empty_pattern h spelled empties) = refl
 has_key o _ (HasLineFault.name_again h) = refl
 has_key o _ (HasLineFault.literal_again h) = refl
 has_key o _ (HasLineFault.start_again before e) = refl
@@ -43,7 +45,6 @@ order f = 16 * fault_line f + fault_number f
 low_number : (f : SheetFault) → fault_number f < 16
 low_number (BadByte line) = omega arith
 low_number (Syntax line) = omega arith
-low_number FormNotBuilt = omega arith
 low_number (BadPattern line) = omega arith
 low_number (PatternMatchesEmpty line) = omega arith
 low_number (Redeclared line) = omega arith

@@ -1,9 +1,13 @@
--- The literals of an outline's tokens are written by the lexemes that spell it.
+-- The literals of a sheet, and the texts of its patterns, are written by the lexemes that spell its outline.
 use Rattle.std.proofs.Common.{◌≡◌, ℕ, ◌+◌, ◌≤◌, Bool, true, false, List, [], ◌∷◌, ◌++◌, length, refl, sym, ap, subst, ◌∙◌, arith}
 use Rattle.std.specs.Prelude.{map, not, filter, sum_by, if◌then◌else◌}
 use Rattle.std.specs.List.{flat_map}
 use Rattle.std.specs.Str.{bytes_eq}
 use Rattle.std.proofs.lemmas.List.Sums.{sum_by-cons}
+use Rattle.position_theory.proofs.SpellingLemmas.{spelled_within}
+use Rattle.sheet_data.specs.Sheet.{Sheet}
+use Rattle.sheet_data.specs.declared.parts.Decl.{Decl}
+use Rattle.sheet_data.specs.declared.parts.Decl.TheVariants.{Literal as literal_decl, Matched as matched_decl, Skip as skip_decl}
 use Rattle.lexeme_theory.specs.declared.lexeme.Lexeme.TheVariants.{Mark}
 use Rattle.lexeme_theory.specs.declared.lexeme.Single.{Single}
 use Rattle.lexeme_theory.specs.declared.lexeme.Single.TheVariants.{Colon, Bar, Semicolon}
@@ -18,7 +22,9 @@ use Rattle.outline_data.specs.Parts.{OutlineParts}
 use Rattle.outline_theory.specs.Spelling.{Kept, kept, bare, single, spelled_declaration, spelled_symbol, spelled_template, spelled_mark, spelled_alternative, spelled_sides, spelled_group, spelled_rest, spelled_outline}
 use Rattle.outline_theory.specs.Words.{texts, literal_words, quoted_in, side_literals}
 use Rattle.outline_theory.specs.Outlines.{IsOutlineOf}
-use Rattle.outline_theory.specs.Numbering.{is_one_of, distinct, unnamed_literals, literal_of_token, token_literals}
+use Rattle.outline_theory.specs.Limits.{positions_in}
+use Rattle.outline_theory.specs.Numbering.{is_one_of, distinct, unnamed_literals, AreDecls, IsSheetOf}
+use Rattle.outline_theory.specs.Numbering.AreDecls.{no_decl, literal_first, matched_first, skip_first, start_first}
 use Rattle.sheet_laws.proofs.LexemeSizes.{sizes, lexemes_within, reading_inside}
 
 -- the lengths of words together
@@ -59,21 +65,27 @@ distinct_within (word ∷ words) =
     let more = distinct_within words in
     omega (arith, one, more)
 
--- the literals of declarations
-declaration_within : (d : Declaration) → lengths (literal_of_token d) ≤ sizes (spelled_declaration d)
-declaration_within (Literal name literal) = omega arith
-declaration_within (Matched name pattern) = omega arith
-declaration_within (Skip pattern) = omega arith
-declaration_within (Start line name) = omega arith
-
-declarations_within : (ds : List Declaration) → lengths (flat_map literal_of_token ds) ≤ sizes (flat_map spelled_declaration ds)
-declarations_within [] = omega arith
-declarations_within (d ∷ ds) =
-    let one = declaration_within d in
-    let more = declarations_within ds in
-    let words = lengths_append (literal_of_token d) (flat_map literal_of_token ds) in
+-- the positions of declarations
+positions_more : (d : Declaration) (ds : List Declaration) (decl : Decl) (decls all : List Decl) → all ≡ decl ∷ decls → positions_in decl ≤ sizes (spelled_declaration d) → sum_by positions_in decls ≤ sizes (flat_map spelled_declaration ds) → sum_by positions_in all ≤ sizes (flat_map spelled_declaration (d ∷ ds))
+positions_more d ds decl decls all are one more =
+    let sum : sum_by positions_in all ≡ positions_in decl + sum_by positions_in decls = ap (sum_by positions_in) are ∙ sum_by-cons positions_in decl decls in
     let lexemes = sizes_append (spelled_declaration d) (flat_map spelled_declaration ds) in
-    omega (arith, one, more, words, lexemes)
+    omega (arith, sum, one, more, lexemes)
+
+declarations_within : {ds : List Declaration} {decls : List Decl} → AreDecls ds decls → sum_by positions_in decls ≤ sizes (flat_map spelled_declaration ds)
+declarations_within no_decl = omega arith
+declarations_within {decls = all} (literal_first {name = name} {literal = literal} {declarations = ds} {decls = decls} are is) =
+    positions_more (Literal name literal) ds (literal_decl name.bytes literal.bytes) decls all is (omega arith) (declarations_within are)
+declarations_within {decls = all} (matched_first {name = name} {word = word} {pattern = pattern} {declarations = ds} {decls = decls} spelled are is) =
+    let few = spelled_within word.bytes pattern spelled in
+    positions_more (Matched name word) ds (matched_decl name.bytes pattern) decls all is (omega (arith, few)) (declarations_within are)
+declarations_within {decls = all} (skip_first {word = word} {pattern = pattern} {declarations = ds} {decls = decls} spelled are is) =
+    let few = spelled_within word.bytes pattern spelled in
+    positions_more (Skip word) ds (skip_decl pattern) decls all is (omega (arith, few)) (declarations_within are)
+declarations_within {decls = decls} (start_first {line = line} {name = name} {declarations = ds} are) =
+    let more : sum_by positions_in decls ≤ sizes (flat_map spelled_declaration ds) = declarations_within are in
+    let lexemes = sizes_append (spelled_declaration (Start line name)) (flat_map spelled_declaration ds) in
+    omega (arith, more, lexemes)
 
 -- those of right sides
 right_within : (ss : List Symbol) → lengths (texts (flat_map quoted_in ss)) ≡ sizes (map spelled_symbol ss)
@@ -129,23 +141,27 @@ unnamed_within o =
     let other = filter_within p (texts (side_literals o)) in
     omega (arith, one, other)
 
-outline_within : (o : OutlineParts) → lengths (token_literals o) ≤ sizes (spelled_outline o)
+outline_within : (o : OutlineParts) (decls : List Decl) → AreDecls o.declarations decls → sum_by positions_in decls + lengths (unnamed_literals o) ≤ sizes (spelled_outline o)
 unfolding spelled_outline
-outline_within o =
-    let words = lengths_append (flat_map literal_of_token o.declarations) (unnamed_literals o) in
-    let declared = declarations_within o.declarations in
+outline_within o decls are =
+    let declared : sum_by positions_in decls ≤ sizes (flat_map spelled_declaration o.declarations) = declarations_within are in
     let unnamed = unnamed_within o in
     let rules = groups_within o.groups in
     let lexemes = sizes_append (flat_map spelled_declaration o.declarations) (bare Mark ∷ (flat_map spelled_group o.groups ++ spelled_rest o.has_rest)) in
     let behind = sizes_append (flat_map spelled_group o.groups) (spelled_rest o.has_rest) in
-    omega (arith, words, declared, unnamed, rules, lexemes, behind)
+    omega (arith, declared, unnamed, rules, lexemes, behind)
 
--- the literals of the tokens are no longer, together, than the bytes
-pub literals_within : (bytes : List ℕ) (o : OutlineParts) → IsOutlineOf bytes o → sum_by length (token_literals o) ≤ length bytes
-literals_within bytes o h =
-    let sum = lengths_sum (token_literals o) in
-    let outline = outline_within o in
+-- a sheet has no more positions than the bytes of its outline
+pub declared_within : (bytes : List ℕ) (o : OutlineParts) (decls : List Decl) → IsOutlineOf bytes o → AreDecls o.declarations decls → sum_by positions_in decls + sum_by length (unnamed_literals o) ≤ length bytes
+declared_within bytes o decls h are =
+    let sum = lengths_sum (unnamed_literals o) in
+    let outline = outline_within o decls are in
     let spelled : sizes (map kept h.lexemes) ≡ sizes (spelled_outline o) = ap sizes h.spelled in
     let read = lexemes_within bytes h.read in
     let end = reading_inside bytes h.read (omega arith) in
     omega (arith, sum, outline, spelled, read, end)
+
+pub positions_within : (bytes : List ℕ) (o : OutlineParts) (sheet : Sheet) → IsOutlineOf bytes o → IsSheetOf o sheet → sum_by positions_in sheet.decls + sum_by length sheet.literals ≤ length bytes
+positions_within bytes o sheet h is =
+    let P : List (List ℕ) → Type 0 = λ literals. sum_by positions_in sheet.decls + sum_by length literals ≤ length bytes in
+    subst P (sym is.literals) (declared_within bytes o sheet.decls h is.decls)

@@ -1,22 +1,23 @@
 -- Bytes are one sheet, or have one first fault.
-use Rattle.std.specs.Prelude.{◌≡◌, ℕ, ◌≤◌, List, length, sum_by}
+use Rattle.std.specs.Prelude.{◌≡◌, ℕ, ◌+◌, ◌≤◌, List, length, sum_by}
 use Rattle.sheet_data.specs.Sheet.{Sheet}
 use Rattle.outline_data.specs.declared.fault.SheetFault.{SheetFault}
 use Rattle.outline_data.specs.Parts.{OutlineParts}
-use Rattle.outline_theory.specs.Outlines.{IsOutlineOf, IsPlain}
+use Rattle.outline_theory.specs.Outlines.{IsOutlineOf}
 use Rattle.outline_theory.specs.LineFaults.{IsFirstLineFault}
-use Rattle.outline_theory.specs.Numbering.{token_literals, IsSheetOf}
-use Rattle.outline_theory.specs.Reading.{Reads, IsFirstFault}
+use Rattle.outline_theory.specs.Limits.{positions_in}
+use Rattle.outline_theory.specs.Numbering.{IsSheetOf}
+use Rattle.outline_theory.specs.Reading.{IsFaultless, Reads, IsFirstFault}
 
--- the literals of the tokens are no longer, together, than the bytes
+-- a sheet's patterns and literals have no more positions, together, than the bytes of its outline
 abbrev pub SizesLaw : Type 0
-SizesLaw = (bytes : List ℕ) (o : OutlineParts) → IsOutlineOf bytes o → sum_by length (token_literals o) ≤ length bytes
+SizesLaw = (bytes : List ℕ) (o : OutlineParts) (sheet : Sheet) → IsOutlineOf bytes o → IsSheetOf o sheet → sum_by positions_in sheet.decls + sum_by length sheet.literals ≤ length bytes
 
--- an outline without patterns has a sheet
+-- it is refuted that a faultless outline has no sheet
 abbrev pub SomeSheetLaw : Type 0
-SomeSheetLaw = (o : OutlineParts) → IsPlain o → (sheet : Sheet) × IsSheetOf o sheet
+SomeSheetLaw = (o : OutlineParts) → IsFaultless o → ((sheet : Sheet) → ¬ (IsSheetOf o sheet)) → ⊥
 
--- and one at most
+-- and an outline has one at most
 abbrev pub OneSheetOfLaw : Type 0
 OneSheetOfLaw = (o : OutlineParts) (one other : Sheet) → IsSheetOf o one → IsSheetOf o other → one ≡ other
 

@@ -1,11 +1,11 @@
 ghost use Rattle.sheet_laws.specs.Laws.{SizesLaw, SomeSheetLaw, OneSheetOfLaw, OneSheetLaw, OneLineFaultLaw, OneFirstFaultLaw, NoFirstFaultLaw, SheetOrFaultLaw};
 
-/// The literals of an outline's tokens are no longer, together, than its bytes.
+/// A sheet's patterns and literals have no more positions, together, than the bytes of its outline.
 pub fn sizes_law()
     ensures { SizesLaw }
 {}
 
-/// An outline without patterns has one sheet.
+/// It is refuted that a faultless outline has no sheet, and an outline has one at most.
 pub fn sheet_of_law()
     ensures some { SomeSheetLaw }
     ensures one { OneSheetOfLaw }

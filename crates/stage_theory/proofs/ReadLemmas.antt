@@ -1,10 +1,8 @@
 -- Bytes that are read up to a place, and what this says of the sheet.
 use Rattle.std.proofs.Common.{◌≡◌, ◌≢◌, ⊎_elim, ℕ, List, [], ◌∷◌, ◌++◌, length, refl, sym, subst}
-use Rattle.std.specs.Prelude.{map, All, None, Some, MatchBool}
+use Rattle.std.specs.Prelude.{map, None, Some, MatchBool}
 use Rattle.std.proofs.lemmas.List.{append-nil, map-append}
-use Rattle.std.proofs.lemmas.List.Elements.{All-append, All-cons, All-nil}
 use Rattle.lexeme_theory.specs.declared.lexeme.Lexeme.{Lexeme}
-use Rattle.lexeme_theory.specs.declared.lexeme.Lexeme.TheVariants.{Pattern}
 use Rattle.lexeme_theory.specs.declared.found.FaultKind.{FaultKind}
 use Rattle.lexeme_theory.specs.declared.found.FaultKind.TheVariants.{Syntax}
 use Rattle.lexeme_theory.specs.Lines.{line_of}
@@ -14,23 +12,21 @@ use Rattle.lexeme_theory.specs.Reading.AreLexemes.{no_lexeme, lexeme_first}
 use Rattle.lexeme_theory.proofs.ReadingLemmas.{reading_join, blanks_read}
 use Rattle.outline_data.specs.Parts.{OutlineParts}
 use Rattle.outline_theory.specs.Spelling.{kept, line_kept}
-use Rattle.outline_theory.specs.Outlines.{IsOutlineOf, BeginsSheet, IsWrongAt, IsPlainLexeme, IsLexicalFault, IsFormNotBuilt, IsPlain}
+use Rattle.outline_theory.specs.Outlines.{IsOutlineOf, IsWrongAt, IsLexicalFault}
 use Rattle.outline_theory.specs.Outlines.IsWrongAt.{no_sheet_goes_on, no_whole_sheet}
 use Rattle.stage_theory.specs.Stages.Stage.{rules, ended}
 use Rattle.stage_theory.specs.Drafts.{Draft, stage_of, next_draft, first_draft, IsDraftOf}
 use Rattle.stage_theory.proofs.RunLemmas.{whole_draft}
 use Rattle.stage_theory.proofs.StageLemmas.{draft_first, draft_more, draft_stuck, draft_begins, whole_leads, ended_leads, draft_outline}
-use Rattle.stage_theory.proofs.PlainLemmas.{plain_outline}
 
 -- the lexemes up to a place are read as the draft
 pub record IsReadSoFar (bytes : List ℕ) (at : ℕ) (draft : Draft) : Type 0 where
   pub lexemes : List Placed
   pub read : AreLexemes bytes 0 lexemes at
   pub of : IsDraftOf (map kept lexemes) draft
-  pub plain : All IsPlainLexeme lexemes
 
 pub so_far_none : (bytes : List ℕ) → IsReadSoFar bytes 0 first_draft
-so_far_none bytes = record { lexemes = []; read = no_lexeme refl; of = draft_first; plain = All-nil IsPlainLexeme }
+so_far_none bytes = record { lexemes = []; read = no_lexeme refl; of = draft_first }
 
 -- blanks are passed
 pub so_far_blanks : (bytes : List ℕ) (from to : ℕ) (draft : Draft) → IsReadSoFar bytes from draft → AreBlanks bytes from to → IsReadSoFar bytes to draft
@@ -38,33 +34,17 @@ so_far_blanks bytes from to draft h blanks = record {
   lexemes = h.lexemes;
   read = subst (λ ls. AreLexemes bytes 0 ls to) (append-nil h.lexemes) (reading_join bytes to [] h.read (blanks_read bytes blanks));
   of = h.of;
-  plain = h.plain;
 }
 
 module _ (bytes : List ℕ) (at : ℕ) (draft : Draft) (h : IsReadSoFar bytes at draft) where
   -- a lexeme more
-  pub so_far_lexeme : (next : ℕ) (more : Draft) (lexeme : Lexeme) → IsLexeme bytes at lexeme next → next_draft draft lexeme (line_of bytes at) ≡ Some more → ((text : List ℕ) → lexeme ≢ Pattern text) → IsReadSoFar bytes next more
-  so_far_lexeme next more lexeme stands e plain =
+  pub so_far_lexeme : (next : ℕ) (more : Draft) (lexeme : Lexeme) → IsLexeme bytes at lexeme next → next_draft draft lexeme (line_of bytes at) ≡ Some more → IsReadSoFar bytes next more
+  so_far_lexeme next more lexeme stands e =
       let last : Placed = placed_in bytes at lexeme in
       record {
         lexemes = h.lexemes ++ last ∷ [];
         read = reading_join bytes next (last ∷ []) h.read (lexeme_first stands (no_lexeme refl) refl);
         of = subst (λ ks. IsDraftOf ks more) (sym (map-append kept h.lexemes (last ∷ []))) (draft_more (map kept h.lexemes) draft lexeme (line_of bytes at) more h.of e);
-        plain = All-append IsPlainLexeme h.lexemes (last ∷ []) h.plain (All-cons IsPlainLexeme last [] plain (All-nil IsPlainLexeme));
-      }
-
-  -- a pattern that the draft would take
-  pub pattern_form : (next : ℕ) (more : Draft) (text : List ℕ) → IsLexeme bytes at (Pattern text) next → next_draft draft (Pattern text) (line_of bytes at) ≡ Some more → IsFormNotBuilt bytes
-  pattern_form next more text stands e =
-      let last : Placed = placed_in bytes at (Pattern text) in
-      record {
-        lexemes = h.lexemes;
-        at = at;
-        read = h.read;
-        text = text;
-        next = next;
-        stands = stands;
-        begins = subst (λ ks. BeginsSheet ks) (sym (map-append kept h.lexemes (last ∷ []))) (draft_begins more _ (draft_more (map kept h.lexemes) draft (Pattern text) (line_of bytes at) more h.of e));
       }
 
   -- what is wrong there is the fault, where the sheet isn't ended
@@ -75,7 +55,6 @@ module _ (bytes : List ℕ) (at : ℕ) (draft : Draft) (h : IsReadSoFar bytes at
     read = h.read;
     begins = draft_begins draft (map kept h.lexemes) h.of;
     not_ended = λ w. open_sheet (ended_leads (map kept h.lexemes) draft h.of w);
-    plain = h.plain;
     wrong = wrong;
     on = refl;
   }
@@ -94,9 +73,6 @@ module _ (bytes : List ℕ) (at : ℕ) (draft : Draft) (h : IsReadSoFar bytes at
   module _ (o : OutlineParts) (whole : draft ≡ whole_draft o) where
     spells : IsDraftOf (map kept h.lexemes) (whole_draft o)
     spells = subst (λ d. IsDraftOf (map kept h.lexemes) d) whole h.of
-
-    pub outline_plain : IsPlain o
-    outline_plain = plain_outline o h.lexemes (sym (draft_outline o (map kept h.lexemes) spells)) h.plain
 
     pub outline_of : MatchBool o.has_rest (Unit {0}) (at ≡ length bytes) → IsOutlineOf bytes o
     outline_of end = record { lexemes = h.lexemes; to = at; read = h.read; spelled = sym (draft_outline o (map kept h.lexemes) spells); shaped = spells.shaped; ended = end }

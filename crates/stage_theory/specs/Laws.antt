@@ -1,9 +1,8 @@
 -- The stages know the grammar of sheets.
-use Rattle.std.specs.Prelude.{◌≡◌, ◌↔◌, List, map, All, None, Some, ◌⊎◌}
+use Rattle.std.specs.Prelude.{◌≡◌, ◌↔◌, List, map, None, Some, ◌⊎◌}
 use Rattle.lexeme_theory.specs.Reading.{Placed}
-use Rattle.outline_data.specs.Parts.{OutlineParts}
-use Rattle.outline_theory.specs.Spelling.{Kept, kept, spelled_outline}
-use Rattle.outline_theory.specs.Outlines.{BeginsSheet, IsWholeSheet, IsEnded, IsPlainLexeme, IsPlain}
+use Rattle.outline_theory.specs.Spelling.{Kept, kept}
+use Rattle.outline_theory.specs.Outlines.{BeginsSheet, IsWholeSheet, IsEnded}
 use Rattle.stage_theory.specs.Stages.{Stage, stage_after}
 use Rattle.stage_theory.specs.Stages.Stage.{declarations, rules, ended}
 
@@ -22,7 +21,3 @@ WholeLaw = (stage : Stage) (lexemes : List Placed) → stage_after declarations 
 -- the second `%%` ended it in the last stage
 abbrev pub EndedLaw : Type 0
 EndedLaw = (stage : Stage) (lexemes : List Placed) → stage_after declarations (map kept lexemes) ≡ Some stage → (IsEnded (map kept lexemes) ↔ (stage ≡ ended))
-
--- an outline has no pattern exactly where its lexemes have none
-abbrev pub PlainLaw : Type 0
-PlainLaw = (outline : OutlineParts) (lexemes : List Placed) → map kept lexemes ≡ spelled_outline outline → (IsPlain outline ↔ All IsPlainLexeme lexemes)

@@ -1,4 +1,4 @@
-ghost use Rattle.stage_theory.specs.Laws.{BeginsLaw, StuckLaw, WholeLaw, EndedLaw, PlainLaw};
+ghost use Rattle.stage_theory.specs.Laws.{BeginsLaw, StuckLaw, WholeLaw, EndedLaw};
 
 /// The stages know which lexemes begin a sheet, which are a whole one, and which have ended it.
 pub fn stage_laws()
@@ -6,9 +6,4 @@ pub fn stage_laws()
     ensures stuck { StuckLaw }
     ensures whole { WholeLaw }
     ensures ended { EndedLaw }
-{}
-
-/// An outline has no pattern exactly where its lexemes have none.
-pub fn plain_law()
-    ensures { PlainLaw }
 {}

@@ -4,4 +4,4 @@
 
 mod laws;
 
-pub use laws::{plain_law, stage_laws};
+pub use laws::stage_laws;

@@ -1,5 +1,5 @@
-use Rattle.sheet_laws.proofs.SizeLemmas.{literals_within}
+use Rattle.sheet_laws.proofs.SizeLemmas.{positions_within}
 use Rattle.sheet_laws.proofs.laws.sizes_law.Goals as goal
 
 pub returns : goal.returns
-returns c = literals_within
+returns c = positions_within
