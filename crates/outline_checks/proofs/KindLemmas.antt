@@ -6,6 +6,10 @@ use Rattle.std.proofs.lemmas.Bool.{false≢true}
 use Rattle.std.proofs.lemmas.List.{take_all, map-append}
 use Rattle.std.proofs.lemmas.List.Elements.{Contains-append_left, Contains-append_right, Contains-append_cases, Contains-push, Contains-push_cases}
 use Rattle.std.proofs.lemmas.Option.{none-some}
+use Rattle.pattern_data.specs.declared.pattern.Pattern.{Pattern}
+use Rattle.pattern_data.specs.Language.{Matches}
+use Rattle.pattern_data.specs.Spellings.{IsSpelling}
+use Rattle.pattern_data.proofs.RoundLemmas.{spelling_once}
 use Rattle.outline_data.specs.declared.outline.Word.{Word}
 use Rattle.outline_data.specs.declared.outline.PlaceUse.{PlaceUse}
 use Rattle.outline_data.specs.declared.rules.Symbol.{Symbol}
@@ -17,7 +21,7 @@ use Rattle.outline_data.specs.declared.fault.SheetFault.TheVariants.{BadPattern,
 use Rattle.outline_theory.specs.Words.{StartUse, texts, places, use_in, number_in, parts_of}
 use Rattle.outline_checks.specs.declared.names.Names.{Names}
 use Rattle.outline_checks.specs.Noted.{Noted}
-use Rattle.outline_checks.specs.Kinds.{is_token_name, is_left_side, InSome, LiteralFault, line_feed, empty, RepeatFault, again, NamedLiteralFault, named_again, named_text, StartFault, second_start, unknown_start, NameFault, unknown_name, SymbolFault, PlaceFault, out_of_range, twice, IsGrammarName, NoTokenFault, not_a_token, AlternativeFault, in_right, in_template, in_marks, at_name, GroupFault, left_is_token, in_alternative, TemplateFault}
+use Rattle.outline_checks.specs.Kinds.{is_token_name, is_left_side, InSome, LiteralFault, line_feed, empty, RepeatFault, again, NamedLiteralFault, named_again, named_text, PatternTextFault, no_spelling, empty_pattern, StartFault, second_start, unknown_start, NameFault, unknown_name, SymbolFault, PlaceFault, out_of_range, twice, IsGrammarName, NoTokenFault, not_a_token, AlternativeFault, in_right, in_template, in_marks, at_name, GroupFault, left_is_token, in_alternative, TemplateFault}
 use Rattle.outline_checks.proofs.NotedLemmas.{noted_none, noted_both, noted_as}
 use Rattle.outline_checks.proofs.ListLemmas.{no_element, get-append_left, get_pushed, get_push_cases, IsAgain, again_before, again_here, again_cases, next_taken}
 
@@ -128,6 +132,41 @@ named_push words word was same h k l =
     back : (f : SheetFault) → NamedLiteralFault (words ++ word ∷ []) f → (NamedLiteralFault words f ⊎ ((was ≡ true) × (f ≡ Redeclared word.line))) ⊎ LiteralFault word f
     back f (named_again p) = elim (repeat_cases words word f p) [ inl before ↦ inl (inl (named_again before)) | inr last ↦ inl (inr (same.1 last.0, last.1)) ]
     back f (named_text p) = elim (in_some_cases LiteralFault words word f p) [ inl before ↦ inl (inl (named_text before)) | inr last ↦ inr last ]
+
+-- ---- patterns
+
+pub patterns_push : (words : List Word) (word : Word) {a b c : Option SheetFault} → Noted a b (InSome PatternTextFault words) → Noted b c (PatternTextFault word) → Noted a c (InSome PatternTextFault (words ++ word ∷ []))
+patterns_push words word h k = in_some_push PatternTextFault words word h k
+
+pub pattern_sound : (word : Word) (text : List ℕ) (pattern : Pattern) (a : Option SheetFault) → text ≡ word.bytes → IsSpelling text pattern → ¬ (Matches pattern []) → Noted a a (PatternTextFault word)
+pattern_sound word text pattern a same read filled = noted_none a (PatternTextFault word) none
+  where
+    spelled : IsSpelling word.bytes pattern
+    spelled = subst (λ t. IsSpelling t pattern) same read
+
+    none : (f : SheetFault) → PatternTextFault word f → ⊥
+    none _ (no_spelling h) = h pattern spelled
+    none _ (empty_pattern {pattern = other} h empties) = filled (subst (λ p. Matches p []) (spelling_once word.bytes other pattern h spelled) empties)
+
+pub pattern_unread : (word : Word) (text : List ℕ) {a b : Option SheetFault} → text ≡ word.bytes → ((pattern : Pattern) → ¬ (IsSpelling text pattern)) → Noted a b (λ f. IsTrue true × (f ≡ BadPattern word.line)) → Noted a b (PatternTextFault word)
+pattern_unread word text same unread h = noted_one true (BadPattern word.line) (PatternTextFault word) h (λ _. no_spelling spelled) back
+  where
+    spelled : (pattern : Pattern) → ¬ (IsSpelling word.bytes pattern)
+    spelled pattern read = unread pattern (subst (λ t. IsSpelling t pattern) (sym same) read)
+
+    back : (f : SheetFault) → PatternTextFault word f → IsTrue true × (f ≡ BadPattern word.line)
+    back _ (no_spelling h) = (refl, refl)
+    back _ (empty_pattern {pattern = pattern} h empties) = absurd (spelled pattern h)
+
+pub pattern_empty : (word : Word) (text : List ℕ) (pattern : Pattern) {a b : Option SheetFault} → text ≡ word.bytes → IsSpelling text pattern → Matches pattern [] → Noted a b (λ f. IsTrue true × (f ≡ PatternMatchesEmpty word.line)) → Noted a b (PatternTextFault word)
+pattern_empty word text pattern same read empties h = noted_one true (PatternMatchesEmpty word.line) (PatternTextFault word) h (λ _. empty_pattern spelled empties) back
+  where
+    spelled : IsSpelling word.bytes pattern
+    spelled = subst (λ t. IsSpelling t pattern) same read
+
+    back : (f : SheetFault) → PatternTextFault word f → IsTrue true × (f ≡ PatternMatchesEmpty word.line)
+    back _ (no_spelling none) = absurd (none pattern spelled)
+    back _ (empty_pattern other is) = (refl, refl)
 
 -- ---- starts
 

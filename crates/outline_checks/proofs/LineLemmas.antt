@@ -13,12 +13,12 @@ use Rattle.outline_data.specs.declared.fault.SheetFault.{SheetFault}
 use Rattle.outline_data.specs.AlternativeParts.{AlternativeParts}
 use Rattle.outline_data.specs.GroupParts.{GroupParts}
 use Rattle.outline_data.specs.Parts.{OutlineParts}
-use Rattle.outline_theory.specs.Words.{texts, token_words, literal_words, starts, left_words, alternatives_of, name_in, quoted_in, side_names, side_literals, all_literals, template_uses, token_uses}
+use Rattle.outline_theory.specs.Words.{texts, token_words, literal_words, pattern_words, starts, left_words, alternatives_of, name_in, quoted_in, side_names, side_literals, all_literals, template_uses, token_uses}
 use Rattle.outline_theory.specs.LineFaults.{IsTokenName, HasRule, HasLineFault, IsFirstLineFault}
 use Rattle.outline_checks.specs.declared.names.Names.{Names}
 use Rattle.outline_checks.specs.Noted.{Noted}
 use Rattle.outline_checks.specs.WordSets.{IsSetOf}
-use Rattle.outline_checks.specs.Kinds.{is_token_name, is_left_side, InSome, LiteralFault, RepeatFault, NamedLiteralFault, StartFault, NameFault, SymbolFault, PlaceFault, IsGrammarName, NoTokenFault, AlternativeFault, GroupFault}
+use Rattle.outline_checks.specs.Kinds.{is_token_name, is_left_side, InSome, LiteralFault, RepeatFault, NamedLiteralFault, PatternTextFault, StartFault, NameFault, SymbolFault, PlaceFault, IsGrammarName, NoTokenFault, AlternativeFault, GroupFault}
 use Rattle.outline_checks.proofs.NotedLemmas.{noted_both, noted_as}
 use Rattle.outline_checks.proofs.ListLemmas.{no_element, only_element, one_element, joined_has, joined_from, mapped_has, mapped_from}
 
@@ -58,7 +58,7 @@ module _ (o : OutlineParts) (names : Names) (knows : KnowsNames o names) where
 
   -- the faults of all kinds
   abbrev pub AnyKind : SheetFault → Type 0
-  AnyKind f = ((RepeatFault (token_words o) f ⊎ NamedLiteralFault (literal_words o) f) ⊎ StartFault names (starts o) f) ⊎ InSome (GroupFault names) o.groups f
+  AnyKind f = (((RepeatFault (token_words o) f ⊎ NamedLiteralFault (literal_words o) f) ⊎ InSome PatternTextFault (pattern_words o) f) ⊎ StartFault names (starts o) f) ⊎ InSome (GroupFault names) o.groups f
 
   -- ---- each fault of a kind is one of the outline
 
@@ -75,6 +75,10 @@ module _ (o : OutlineParts) (names : Names) (knows : KnowsNames o names) where
 
   of_token : (f : SheetFault) → RepeatFault (token_words o) f → HasLineFault o f
   of_token _ (RepeatFault.again h) = HasLineFault.name_again h
+
+  of_pattern : (word : Word) (f : SheetFault) → Contains (pattern_words o) word → PatternTextFault word f → HasLineFault o f
+  of_pattern word _ h (PatternTextFault.no_spelling none) = HasLineFault.no_spelling h none
+  of_pattern word _ h (PatternTextFault.empty_pattern spelled empties) = HasLineFault.empty_pattern h spelled empties
 
   of_start : (f : SheetFault) → StartFault names (starts o) f → HasLineFault o f
   of_start _ (StartFault.second_start before e) = HasLineFault.start_again before e
@@ -113,8 +117,9 @@ module _ (o : OutlineParts) (names : Names) (knows : KnowsNames o names) where
       of_alternative p.element f (joined_has (λ (b : GroupParts). b.alternatives) o.groups g p.element h p.stands) p.has
 
   of_any : (f : SheetFault) → AnyKind f → HasLineFault o f
-  of_any f (inl (inl (inl p))) = of_token f p
-  of_any f (inl (inl (inr p))) = of_named f p
+  of_any f (inl (inl (inl (inl p)))) = of_token f p
+  of_any f (inl (inl (inl (inr p)))) = of_named f p
+  of_any f (inl (inl (inr p))) = of_pattern p.element f p.stands p.has
   of_any f (inl (inr p)) = of_start f p
   of_any f (inr p) = of_group p.element f p.stands p.has
 
@@ -127,7 +132,7 @@ module _ (o : OutlineParts) (names : Names) (knows : KnowsNames o names) where
 
   to_literal : (word : Word) (f : SheetFault) → Contains (all_literals o) word → LiteralFault word f → AnyKind f
   to_literal word f h p = elim (Contains-append_cases (literal_words o) (side_literals o) word h) [
-    | inl named ↦ inl (inl (inr (NamedLiteralFault.named_text (record { element = word; stands = named; has = p }))))
+    | inl named ↦ inl (inl (inl (inr (NamedLiteralFault.named_text (record { element = word; stands = named; has = p })))))
     | inr side ↦
         let r = joined_from (λ (b : AlternativeParts). flat_map quoted_in b.right) (alternatives_of o) word side in
         let s = joined_from quoted_in r.0.right word r.1.1 in
@@ -151,8 +156,10 @@ module _ (o : OutlineParts) (names : Names) (knows : KnowsNames o names) where
   to_any : (f : SheetFault) → HasLineFault o f → AnyKind f
   to_any f (HasLineFault.line_feed {word = w} h feed) = to_literal w f h (LiteralFault.line_feed feed)
   to_any f (HasLineFault.empty_literal {word = w} h none) = to_literal w f h (LiteralFault.empty none)
-  to_any f (HasLineFault.name_again h) = inl (inl (inl (RepeatFault.again h)))
-  to_any f (HasLineFault.literal_again h) = inl (inl (inr (NamedLiteralFault.named_again (RepeatFault.again h))))
+  to_any f (HasLineFault.no_spelling {word = w} h none) = inl (inl (inr (record { element = w; stands = h; has = PatternTextFault.no_spelling none })))
+  to_any f (HasLineFault.empty_pattern {word = w} h spelled empties) = inl (inl (inr (record { element = w; stands = h; has = PatternTextFault.empty_pattern spelled empties })))
+  to_any f (HasLineFault.name_again h) = inl (inl (inl (inl (RepeatFault.again h))))
+  to_any f (HasLineFault.literal_again h) = inl (inl (inl (inr (NamedLiteralFault.named_again (RepeatFault.again h)))))
   to_any f (HasLineFault.start_again before e) = inl (inr (StartFault.second_start before e))
   to_any f (HasLineFault.left_is_token {word = w} h t) =
       let r = mapped_from (λ (b : GroupParts). b.left) o.groups w h in
@@ -179,7 +186,7 @@ verdict o (Some first) h = record {
   first = λ other has. h.noted other has;
 }
 
-pub first_found : (o : OutlineParts) (names : Names) {a b c d e : Option SheetFault} → a ≡ None → KnowsNames o names → Noted a b (RepeatFault (token_words o)) → Noted b c (NamedLiteralFault (literal_words o)) → Noted c d (StartFault names (starts o)) → Noted d e (InSome (GroupFault names) o.groups) → MatchOption e ((fault : SheetFault) → HasLineFault o fault → ⊥) (λ fault. IsFirstLineFault o fault)
-first_found o names {a} {b} {c} {d} {e} new knows h k l m =
-    let all : Noted a e (HasLineFault o) = noted_as (HasLineFault o) (noted_both (noted_both (noted_both h k) l) m) (of_any o names knows) (to_any o names knows) in
+pub first_found : (o : OutlineParts) (names : Names) {a b c d e n : Option SheetFault} → a ≡ None → KnowsNames o names → Noted a b (RepeatFault (token_words o)) → Noted b c (NamedLiteralFault (literal_words o)) → Noted c n (InSome PatternTextFault (pattern_words o)) → Noted n d (StartFault names (starts o)) → Noted d e (InSome (GroupFault names) o.groups) → MatchOption e ((fault : SheetFault) → HasLineFault o fault → ⊥) (λ fault. IsFirstLineFault o fault)
+first_found o names {a} {b} {c} {d} {e} {n} new knows h k p l m =
+    let all : Noted a e (HasLineFault o) = noted_as (HasLineFault o) (noted_both (noted_both (noted_both (noted_both h k) p) l) m) (of_any o names knows) (to_any o names knows) in
     verdict o e (subst (λ x. Noted x e (HasLineFault o)) new all)

@@ -1,5 +1,8 @@
 -- The faults on the lines of an outline by their kinds, over the sets of names that a check has at hand.
 use Rattle.std.specs.Prelude.{◌≡◌, ◌≢◌, ℕ, suc, ◌-◌, ◌<◌, ◌⊎◌, Bool, true, false, List, [], length, Contains, Some, slice_get}
+use Rattle.pattern_data.specs.declared.pattern.Pattern.{Pattern}
+use Rattle.pattern_data.specs.Language.{Matches}
+use Rattle.pattern_data.specs.Spellings.{IsSpelling}
 use Rattle.outline_data.specs.declared.outline.Word.{Word}
 use Rattle.outline_data.specs.declared.outline.PlaceUse.{PlaceUse}
 use Rattle.outline_data.specs.declared.rules.Symbol.{Symbol}
@@ -42,6 +45,11 @@ pub data RepeatFault (words : List Word) : SheetFault → Type 0 where
 pub data NamedLiteralFault (words : List Word) : SheetFault → Type 0 where
   named_again : {fault : SheetFault} → RepeatFault words fault → NamedLiteralFault words fault
   named_text : {fault : SheetFault} → InSome LiteralFault words fault → NamedLiteralFault words fault
+
+-- the text of a pattern spells none, or one that has the empty string
+pub data PatternTextFault (word : Word) : SheetFault → Type 0 where
+  no_spelling : ((pattern : Pattern) → ¬ (IsSpelling word.bytes pattern)) → PatternTextFault word (BadPattern word.line)
+  empty_pattern : {pattern : Pattern} → IsSpelling word.bytes pattern → Matches pattern [] → PatternTextFault word (PatternMatchesEmpty word.line)
 
 -- there is a second start, or one without a rule
 pub data StartFault (names : Names) (starts : List StartUse) : SheetFault → Type 0 where

@@ -6,6 +6,7 @@ mod declarations;
 mod first_fault;
 mod lines;
 mod names;
+mod patterns;
 mod place_set;
 mod symbols;
 mod uses;

@@ -7,6 +7,7 @@ use crate::alternatives::{index_left_sides, note_groups};
 use crate::declarations::{index_tokens, note_named_literals, note_starts};
 use crate::first_fault::FirstFault;
 use crate::names::Names;
+use crate::patterns::note_patterns;
 use lr_base::NoMemory;
 use outline_data::{Outline, SheetFault};
 use std::alloc::Global;
@@ -22,6 +23,7 @@ pub fn first_line_fault(alloc: Global, outline: &Outline) -> Result<Option<Sheet
         left_sides: index_left_sides(alloc, &outline.groups)?,
     };
     note_named_literals(alloc, &outline.declarations, &mut first)?;
+    note_patterns(alloc, &outline.declarations, &mut first)?;
     note_starts(&names, &outline.declarations, &mut first);
     note_groups(alloc, &names, &outline.groups, &mut first)?;
     Ok(first.fault)

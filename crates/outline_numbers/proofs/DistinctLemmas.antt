@@ -1,16 +1,17 @@
 -- Words noted in turn are the distinct ones among them.
-use Rattle.std.proofs.Common.{◌≡◌, ℕ, suc, List, [], ◌∷◌, ◌++◌, Bool, true, false, refl, sym, ap, subst, ◌∙◌}
+use Rattle.std.proofs.Common.{◌≡◌, ℕ, zero, suc, List, [], ◌∷◌, ◌++◌, Bool, true, false, refl, sym, ap, subst, ◌∙◌}
 use Rattle.std.specs.Prelude.{◌||◌, ◌&&◌, not, if◌then◌else◌, filter, Contains, slice_get, Some, take}
 use Rattle.std.specs.Str.{bytes_eq}
+use Rattle.std.proofs.lemmas.Bool.{false≢true}
 use Rattle.std.proofs.lemmas.List.{append_assoc, append-nil}
 use Rattle.std.proofs.lemmas.List.Folds.{list_any-append}
 use Rattle.std.proofs.lemmas.Slice.Eq.{bytes_eq-Decides}
-use Rattle.std.proofs.lemmas.Option.{slice_get_within, get_or_from_slice_get}
+use Rattle.std.proofs.lemmas.Option.{none-some, same_Some, slice_get_within, get_or_from_slice_get}
 use Rattle.outline_data.specs.declared.outline.Word.{Word}
 use Rattle.outline_theory.specs.Words.{texts}
 use Rattle.outline_theory.specs.LineFaults.{StandsAgain}
 use Rattle.outline_theory.specs.Numbering.{is_one_of, index_of, distinct}
-use Rattle.outline_numbers.proofs.VocabularyLemmas.{at_first}
+use Rattle.outline_numbers.proofs.VocabularyLemmas.{at_first, one_at}
 use Rattle.outline_numbers.specs.Vocabularies.{with_words}
 
 abbrev Test : Type 0
@@ -140,3 +141,67 @@ noted_again base (word ∷ words) none =
 pub noted_once : (words : List Word) → ((word : Word) → ¬ (StandsAgain words word)) → with_words [] (texts words) ≡ texts words
 noted_once words none =
     noted_again [] words (λ at word here again. none word (record { at = at; here = here; before = again }))
+
+-- no word stands twice
+abbrev IsUnique : List (List ℕ) → Type 0
+IsUnique [] = Unit {0}
+IsUnique (word ∷ words) = (is_one_of words word ≡ false) × IsUnique words
+
+no_part : (a b : Bool) → (a || b) ≡ false → (a ≡ false) × (b ≡ false)
+no_part true b e = absurd (false≢true (sym e))
+no_part false b e = (refl, e)
+
+not_back : (word first : List ℕ) (b : Bool) → bytes_eq first word ≡ b → bytes_eq word first ≡ false → b ≡ false
+not_back word first true e apart = absurd (false≢true (sym apart ∙ (bytes_eq-Decides word first).1 (sym ((bytes_eq-Decides first word).0 e))))
+not_back word first false e apart = refl
+
+-- a filter leaves no word that wasn't there
+left_out_by : (p : Test) (first word : List ℕ) (words : List (List ℕ)) (b : Bool) → p first ≡ b → is_one_of (first ∷ words) word ≡ false → (is_one_of words word ≡ false → is_one_of (filter p words) word ≡ false) → is_one_of (filter p (first ∷ words)) word ≡ false
+left_out_by p first word words true e none rest =
+    let parts = no_part (bytes_eq first word) (is_one_of words word) none in
+    ap (λ l. is_one_of l word) (filter_by p first words true e) ∙ ap (λ b. b || is_one_of (filter p words) word) parts.0 ∙ rest parts.1
+left_out_by p first word words false e none rest =
+    ap (λ l. is_one_of l word) (filter_by p first words false e) ∙ rest (no_part (bytes_eq first word) (is_one_of words word) none).1
+
+left_out : (p : Test) (words : List (List ℕ)) (word : List ℕ) → is_one_of words word ≡ false → is_one_of (filter p words) word ≡ false
+left_out p [] word none = none
+left_out p (first ∷ words) word none = left_out_by p first word words (p first) refl none (left_out p words word)
+
+unique_by : (p : Test) (word : List ℕ) (words : List (List ℕ)) (b : Bool) → p word ≡ b → is_one_of words word ≡ false → IsUnique (filter p words) → IsUnique (filter p (word ∷ words))
+unique_by p word words true e none rest = subst IsUnique (sym (filter_by p word words true e)) (left_out p words word none, rest)
+unique_by p word words false e none rest = subst IsUnique (sym (filter_by p word words false e)) rest
+
+unique_filter : (p : Test) (words : List (List ℕ)) → IsUnique words → IsUnique (filter p words)
+unique_filter p [] unique = tt
+unique_filter p (word ∷ words) unique = unique_by p word words (p word) refl unique.0 (unique_filter p words unique.1)
+
+-- the word itself is left out
+itself_by : (word first : List ℕ) (words : List (List ℕ)) (b : Bool) → bytes_eq word first ≡ b → is_one_of (filter (other_than word) words) word ≡ false → is_one_of (filter (other_than word) (first ∷ words)) word ≡ false
+itself_by word first words true e rest = ap (λ l. is_one_of l word) (filter_by (other_than word) first words false (ap not e)) ∙ rest
+itself_by word first words false e rest =
+    ap (λ l. is_one_of l word) (filter_by (other_than word) first words true (ap not e)) ∙ ap (λ b. b || is_one_of (filter (other_than word) words) word) (not_back word first (bytes_eq first word) refl e) ∙ rest
+
+itself_out : (word : List ℕ) (words : List (List ℕ)) → is_one_of (filter (other_than word) words) word ≡ false
+itself_out word [] = refl
+itself_out word (first ∷ words) = itself_by word first words (bytes_eq word first) refl (itself_out word words)
+
+unique_distinct : (words : List (List ℕ)) → IsUnique (distinct words)
+unique_distinct [] = tt
+unique_distinct (word ∷ words) = (itself_out word (distinct words), unique_filter (other_than word) (distinct words) (unique_distinct words))
+
+-- each word has one place
+abbrev pub HasOnePlace : List (List ℕ) → Type 0
+HasOnePlace words = (word : List ℕ) (i j : ℕ) → slice_get words i ≡ Some word → slice_get words j ≡ Some word → i ≡ j
+
+not_later : (first word : List ℕ) (words : List (List ℕ)) (j : ℕ) → is_one_of words first ≡ false → first ≡ word → slice_get words j ≡ Some word → ⊥
+not_later first word words j none same there = false≢true (sym none ∙ ap (is_one_of words) same ∙ one_at words word j there)
+
+one_place : (words : List (List ℕ)) → IsUnique words → HasOnePlace words
+one_place [] unique word i j here there = absurd (none-some word here)
+one_place (first ∷ words) unique word zero zero here there = refl
+one_place (first ∷ words) unique word zero (suc j) here there = absurd (not_later first word words j unique.0 (same_Some first word here) there)
+one_place (first ∷ words) unique word (suc i) zero here there = absurd (not_later first word words i unique.0 (same_Some first word there) here)
+one_place (first ∷ words) unique word (suc i) (suc j) here there = ap suc (one_place words unique.1 word i j here there)
+
+pub distinct_place : (words : List (List ℕ)) → HasOnePlace (distinct words)
+distinct_place words = one_place (distinct words) (unique_distinct words)

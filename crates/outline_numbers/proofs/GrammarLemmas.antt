@@ -1,56 +1,60 @@
 -- The parts of a faultless outline are a grammar's.
-use Rattle.std.proofs.Common.{◌≡◌, ◌≢◌, ℕ, zero, suc, ◌+◌, ◌<◌, ◌≤◌, List, [], ◌∷◌, ◌++◌, length, map, get_or, Bool, true, false, refl, sym, ap, subst, ◌∙◌, arith}
-use Rattle.std.specs.Prelude.{if◌then◌else◌, nat_lt, All, Contains, Option, None, Some, slice_get}
+use Rattle.std.proofs.Common.{◌≡◌, ◌≢◌, ℕ, zero, suc, ◌+◌, ◌<◌, ◌≤◌, List, [], ◌∷◌, length, map, get_or, Bool, true, false, refl, sym, ap, subst, ◌∙◌, arith}
+use Rattle.std.specs.Prelude.{if◌then◌else◌, drop, All, Contains, None, Some, slice_get}
 use Rattle.std.specs.List.{flat_map}
 use Rattle.std.proofs.lemmas.List.{length-append, length-map}
+use Rattle.std.proofs.Math.Seq.{drop-append_seam}
 use Rattle.std.proofs.lemmas.List.Elements.{All-head, All-tail, All-nil, All-cons, All-map, All-weaker, All-append, All-contains}
 use Rattle.std.proofs.lemmas.Option.{none-some, same_Some, slice_get_within, slice_get-get_or}
 use Rattle.grammar_data.specs.Grammar.{Rule}
 use Rattle.grammar_data.specs.declared.rule.Sym.{Sym}
 use Rattle.grammar_data.specs.declared.rule.Sym.TheVariants.{Token as token_symbol, Name as name_symbol}
-use Rattle.lr_base.specs.IsGrammar.{IsSymbolOf, IsRuleOf, IsGrammar, symbols_of}
+use Rattle.lr_base.specs.IsGrammar.{IsSymbolOf, IsRuleOf, IsGrammar}
 use Rattle.outline_data.specs.declared.outline.Word.{Word}
 use Rattle.outline_data.specs.declared.outline.Declaration.{Declaration}
 use Rattle.outline_data.specs.declared.outline.Declaration.TheVariants.{Literal, Matched, Skip, Start}
 use Rattle.outline_data.specs.declared.rules.Symbol.{Symbol}
 use Rattle.outline_data.specs.declared.rules.Symbol.TheVariants.{Name, Quoted}
-use Rattle.outline_data.specs.declared.fault.LimitKind.TheVariants.{Tokens, Names, Rules, RightSide, Symbols}
+use Rattle.sheet_data.specs.declared.parts.Decl.{Decl}
 use Rattle.outline_data.specs.AlternativeParts.{AlternativeParts}
 use Rattle.outline_data.specs.GroupParts.{GroupParts}
 use Rattle.outline_data.specs.Parts.{OutlineParts}
 use Rattle.outline_theory.specs.Spelling.{IsShaped}
-use Rattle.outline_theory.specs.Words.{texts, token_in, token_words, literal_in, literal_words, StartUse, starts, left_words}
-use Rattle.outline_theory.specs.Outlines.{IsPlainDeclaration, IsPlain}
-use Rattle.outline_theory.specs.Limits.{Measure, first_passed, long_side}
-use Rattle.outline_theory.specs.Numbering.{is_one_of, index_of, distinct, unnamed_literals, token_literals, grammar_names, WordLists, lists_of, symbol_by, rule_by, rules_by, rules_of, start_by}
+use Rattle.outline_theory.specs.Words.{texts, token_in, token_words, StartUse, starts, left_words}
+use Rattle.outline_theory.specs.Limits.{first_passed, long_side}
+use Rattle.outline_theory.specs.Numbering.{is_one_of, index_of, distinct, unnamed_literals, literal_of_token, token_literals, grammar_names, WordLists, lists_of, symbol_by, rule_by, rules_by, rules_of, start_by}
 use Rattle.outline_theory.specs.Reading.{IsFaultless}
-use Rattle.outline_numbers.specs.Symbols.{IsKnownName, IsKnown, AreKnown, IsKnownGroup}
-use Rattle.outline_numbers.specs.Passing.{rule_measures, position_measures, all_measures}
-use Rattle.outline_numbers.proofs.PlaceLemmas.{GivesPlaces}
+use Rattle.outline_numbers.specs.Symbols.{IsKnownName, IsKnown, AreKnown, IsKnownGroup, unnamed_in}
+use Rattle.outline_numbers.specs.Passing.{all_measures}
 use Rattle.outline_numbers.proofs.VocabularyLemmas.{at_first, one_at}
-use Rattle.outline_numbers.proofs.LimitLemmas.{at_most, rest_keeps, short_first}
+use Rattle.outline_numbers.proofs.LimitLemmas.{none_over, short_first}
+use Rattle.outline_numbers.proofs.DistinctLemmas.{HasOnePlace, distinct_place}
 use Rattle.outline_numbers.proofs.MemberLemmas.{contains_flat, one_of_distinct}
-use Rattle.outline_numbers.proofs.OutlineLemmas.{token_list, all_known, starts_known}
+use Rattle.outline_numbers.proofs.OutlineLemmas.{all_known, starts_known}
 
 -- a known word's number is in range
 index_within : (words : List (List ℕ)) (word : List ℕ) → is_one_of words word ≡ true → index_of words word < length words
 index_within words word known = slice_get_within words (index_of words word) word (at_first words word known)
 
--- as many tokens as literals at the most
-as_many : (declarations : List Declaration) → All IsPlainDeclaration declarations → length (flat_map token_in declarations) ≡ length (flat_map literal_in declarations)
-as_many [] plain = refl
-as_many (Literal name literal ∷ declarations) plain = ap suc (as_many declarations (All-tail IsPlainDeclaration (Literal name literal) declarations plain))
-as_many (Matched name pattern ∷ declarations) plain = absurd (All-head IsPlainDeclaration (Matched name pattern) declarations plain)
-as_many (Skip pattern ∷ declarations) plain = absurd (All-head IsPlainDeclaration (Skip pattern) declarations plain)
-as_many (Start line name ∷ declarations) plain = as_many declarations (All-tail IsPlainDeclaration (Start line name) declarations plain)
+-- each declared token has a literal, or none for its pattern
+as_many : (declarations : List Declaration) → length (flat_map literal_of_token declarations) ≡ length (flat_map token_in declarations)
+as_many [] = refl
+as_many (Literal name literal ∷ declarations) = ap suc (as_many declarations)
+as_many (Matched name pattern ∷ declarations) = ap suc (as_many declarations)
+as_many (Skip pattern ∷ declarations) = as_many declarations
+as_many (Start line name ∷ declarations) = as_many declarations
 
-pub count_tokens : (o : OutlineParts) → IsPlain o → length (token_literals o) ≡ length (token_words o) + length (unnamed_literals o)
-count_tokens o plain =
-    let named : length (texts (literal_words o)) ≡ length (token_words o) = length-map (literal_words o) (λ (w : Word). w.bytes) ∙ sym (as_many o.declarations plain) in
-    ap length (token_list o plain) ∙ length-append (texts (literal_words o)) (unnamed_literals o) ∙ ap (λ n. n + length (unnamed_literals o)) named
+pub count_tokens : (o : OutlineParts) → length (token_literals o) ≡ length (token_words o) + length (unnamed_literals o)
+count_tokens o =
+    length-append (flat_map literal_of_token o.declarations) (unnamed_literals o) ∙ ap (λ n. n + length (unnamed_literals o)) (as_many o.declarations)
 
-pub few_names : (o : OutlineParts) → IsPlain o → length (texts (token_words o)) ≤ length (token_literals o)
-few_names o plain = omega (arith, count_tokens o plain, length-map (token_words o) (λ (w : Word). w.bytes))
+pub few_names : (o : OutlineParts) → length (texts (token_words o)) ≤ length (token_literals o)
+few_names o = omega (arith, count_tokens o, length-map (token_words o) (λ (w : Word). w.bytes))
+
+-- the literals behind those of the declared tokens
+pub unnamed_behind : (o : OutlineParts) → unnamed_in (lists_of o) ≡ unnamed_literals o
+unnamed_behind o =
+    ap (λ n. drop n (token_literals o)) (length-map (token_words o) (λ (w : Word). w.bytes) ∙ sym (as_many o.declarations)) ∙ drop-append_seam (flat_map literal_of_token o.declarations) (unnamed_literals o)
 
 -- symbols in range
 symbol_name : (lists : WordLists) (word : List ℕ) (b : Bool) → is_one_of lists.tokens word ≡ b → IsKnownName lists word → length lists.tokens ≤ length lists.literals
@@ -88,9 +92,6 @@ are_rules lists (rule ∷ rules) all short =
     All-cons (IsRuleOf (length lists.literals) (length lists.names)) rule rules (record { left = here.0; right = here.1; short = parts.0 }) (are_rules lists rules (All-tail (IsInRange lists) rule rules all) parts.1)
 
 -- each name has a rule
-abbrev pub HasOnePlace : List (List ℕ) → Type 0
-HasOnePlace words = (word : List ℕ) (i j : ℕ) → slice_get words i ≡ Some word → slice_get words j ≡ Some word → i ≡ j
-
 first_rule : (lists : WordLists) (g : GroupParts) → g.alternatives ≢ [] → (alternatives : List AlternativeParts) → g.alternatives ≡ alternatives → (right : List Sym) × Contains (rules_by lists g) (index_of lists.names g.left.bytes, right)
 first_rule lists g some [] e = absurd (some e)
 first_rule lists g some (a ∷ alternatives) e =
@@ -106,9 +107,10 @@ group_at groups word one =
     by_place (g ∷ gs) w (suc k) e =
         let (h, (j, lt, at), same) = by_place gs w k e in (h, (suc j, omega (arith, lt), at), same)
 
-ruled : (o : OutlineParts) → IsShaped o → HasOnePlace (grammar_names o) → (n : ℕ) → n < length (grammar_names o) → (right : List Sym) × Contains (rules_of o) (n, right)
+ruled : (o : OutlineParts) → IsShaped o → (n : ℕ) → n < length (grammar_names o) → (right : List Sym) × Contains (rules_of o) (n, right)
 unfolding grammar_names
-ruled o shaped once n within =
+ruled o shaped n within =
+    let once : HasOnePlace (grammar_names o) = distinct_place (texts (left_words o)) in
     let names = grammar_names o in
     let word = get_or names n [] in
     let here : slice_get names n ≡ Some word = slice_get-get_or names n [] within in
@@ -133,39 +135,26 @@ start_within o some [] known = some
 start_within o some (start ∷ uses) known =
     index_within (grammar_names o) start.name.bytes (All-head (λ (s : StartUse). is_one_of (grammar_names o) s.name.bytes ≡ true) start uses known)
 
-pub grammar_is : (o : OutlineParts) → IsFaultless o → IsPlain o → IsShaped o → HasOnePlace (grammar_names o) → first_passed (all_measures (lists_of o) (rules_of o)) ≡ None
+pub grammar_is : (o : OutlineParts) (decls : List Decl) → IsFaultless o → IsShaped o → first_passed (all_measures (lists_of o) decls (rules_of o)) ≡ None
     → IsGrammar (record { tokens = length (token_literals o); names = length (grammar_names o); rules = rules_of o; start = start_by (grammar_names o) (starts o) })
-grammar_is o faultless plain shaped once none =
-    let tokens = length (token_literals o) in
-    let names = length (grammar_names o) in
-    let rules = rules_of o in
-    let sides_on : List Measure = record { kind = RightSide; count = long_side rules; most = 20 } ∷ record { kind = Symbols; count = symbols_of rules; most = 4000 } ∷ position_measures (lists_of o) in
-    let symbols_on : List Measure = record { kind = Symbols; count = symbols_of rules; most = 4000 } ∷ position_measures (lists_of o) in
-    let rules_on : List Measure = rule_measures rules ++ position_measures (lists_of o) in
-    let names_on : List Measure = record { kind = Names; count = names; most = 500 } ∷ rules_on in
-    let behind_tokens = rest_keeps Tokens tokens 250 names_on none (nat_lt 250 tokens) refl in
-    let behind_names = rest_keeps Names names 500 rules_on behind_tokens (nat_lt 500 names) refl in
-    let behind_rules = rest_keeps Rules (length rules) 1000 sides_on behind_names (nat_lt 1000 (length rules)) refl in
-    let behind_sides = rest_keeps RightSide (long_side rules) 20 symbols_on behind_rules (nat_lt 20 (long_side rules)) refl in
+grammar_is o decls faultless shaped none =
+    let kept = none_over (lists_of o) decls (rules_of o) none in
     let some = some_rule o faultless shaped o.groups refl in
     record {
-      few_tokens = at_most Tokens tokens 250 names_on none (nat_lt 250 tokens) refl;
-      few_names = at_most Names names 500 rules_on behind_tokens (nat_lt 500 names) refl;
+      few_tokens = kept.few_tokens;
+      few_names = kept.few_names;
       some_rule = some.0;
-      few_rules = at_most Rules (length rules) 1000 sides_on behind_names (nat_lt 1000 (length rules)) refl;
-      few_symbols = at_most Symbols (symbols_of rules) 4000 (position_measures (lists_of o)) behind_sides (nat_lt 4000 (symbols_of rules)) refl;
+      few_rules = kept.few_rules;
+      few_symbols = kept.few_symbols;
       start = start_within o some.1 (starts o) (starts_known o faultless);
-      rules = are_rules (lists_of o) rules (all_in_range (lists_of o) o.groups (few_names o plain) (all_known o faultless plain)) (at_most RightSide (long_side rules) 20 symbols_on behind_rules (nat_lt 20 (long_side rules)) refl);
-      ruled = ruled o shaped once;
+      rules = are_rules (lists_of o) (rules_of o) (all_in_range (lists_of o) o.groups (few_names o) (all_known o faultless)) kept.short_sides;
+      ruled = ruled o shaped;
     }
 
 -- the same, by the lists of words
-pub grammar_by : (o : OutlineParts) (lists : WordLists) (rules : List Rule) (start : ℕ) → lists_of o ≡ lists → IsFaultless o → IsPlain o → IsShaped o → HasOnePlace lists.names → first_passed (all_measures lists (flat_map (rules_by lists) o.groups)) ≡ None
+pub grammar_by : (o : OutlineParts) (decls : List Decl) (lists : WordLists) (rules : List Rule) (start : ℕ) → lists_of o ≡ lists → IsFaultless o → IsShaped o → first_passed (all_measures lists decls (flat_map (rules_by lists) o.groups)) ≡ None
     → rules ≡ flat_map (rules_by lists) o.groups → start ≡ start_by lists.names (starts o) → IsGrammar (record { tokens = length lists.literals; names = length lists.names; rules = rules; start = start })
-grammar_by o lists rules start e faultless plain shaped once none r s =
+grammar_by o decls lists rules start e faultless shaped none r s =
     let whole : IsGrammar (record { tokens = length lists.literals; names = length lists.names; rules = flat_map (rules_by lists) o.groups; start = start_by lists.names (starts o) }) =
-    subst (λ (l : WordLists). HasOnePlace l.names → first_passed (all_measures l (flat_map (rules_by l) o.groups)) ≡ None → IsGrammar (record { tokens = length l.literals; names = length l.names; rules = flat_map (rules_by l) o.groups; start = start_by l.names (starts o) })) e (λ once_of none_of. grammar_is o faultless plain shaped once_of none_of) once none in
+    subst (λ (l : WordLists). first_passed (all_measures l decls (flat_map (rules_by l) o.groups)) ≡ None → IsGrammar (record { tokens = length l.literals; names = length l.names; rules = flat_map (rules_by l) o.groups; start = start_by l.names (starts o) })) e (λ none_of. grammar_is o decls faultless shaped none_of) none in
     rw (r, s) whole
-
-pub one_place : (f : List ℕ → Option ℕ) (words : List (List ℕ)) → GivesPlaces f words → HasOnePlace words
-one_place f words gives word i j here there = same_Some i j (sym ((gives word i).1 here) ∙ (gives word j).1 there)

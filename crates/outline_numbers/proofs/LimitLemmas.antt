@@ -1,15 +1,18 @@
 -- The first limit that is passed.
 use Rattle.std.proofs.Common.{◌≡◌, ℕ, ◌+◌, ◌*◌, ◌<◌, ◌≤◌, List, [], ◌∷◌, ◌++◌, length, Bool, true, false, refl, sym, ap, subst, ◌∙◌, arith, inr}
-use Rattle.std.specs.Prelude.{Some, None, Result, Ok, Err, nat_lt, if◌then◌else◌}
+use Rattle.std.specs.Prelude.{sum_by, Some, None, Result, Ok, Err, nat_lt, if◌then◌else◌}
 use Rattle.std.proofs.lemmas.Bool.Decides.{nat_tests}
 use Rattle.std.proofs.lemmas.Option.{none-some}
 use Rattle.std.proofs.lemmas.List.Sums.{sum_by-cons}
 use Rattle.grammar_data.specs.Grammar.{Rule}
 use Rattle.lr_base.specs.IsGrammar.{symbols_of}
+use Rattle.sheet_data.specs.declared.parts.Decl.{Decl}
 use Rattle.outline_data.specs.declared.fault.LimitKind.{LimitKind}
+use Rattle.outline_data.specs.declared.fault.LimitKind.TheVariants.{Tokens, Skips, Names, Rules, RightSide, Symbols, Positions}
 use Rattle.outline_data.specs.declared.fault.SheetFault.{SheetFault}
-use Rattle.outline_theory.specs.Limits.{Measure, first_passed, long_side}
+use Rattle.outline_theory.specs.Limits.{Measure, first_passed, skips_in, positions_in, long_side}
 use Rattle.outline_theory.specs.Numbering.{WordLists}
+use Rattle.outline_numbers.specs.Symbols.{unnamed_in}
 use Rattle.outline_numbers.specs.Passing.{IsFirstOf, Keeps, one_measure, word_measures, rule_measures, position_measures, all_measures, IsFirstFaultOf}
 
 passed_by : (m : Measure) (ms : List Measure) (b : Bool) → nat_lt m.most m.count ≡ b → first_passed (m ∷ ms) ≡ (if b then Some m else first_passed ms)
@@ -109,18 +112,55 @@ passed_behind [] more none = refl
 passed_behind (m ∷ ms) more none = behind_by m ms more (nat_lt m.most m.count) refl (passed_behind ms more) none
 
 -- by the place of the fault
-pub words_passed : (lists : WordLists) (rules : List Rule) (fault : SheetFault) → IsFirstOf (word_measures lists) fault → IsFirstFaultOf (all_measures lists rules) fault
-words_passed lists rules fault h = inr (first_more (word_measures lists) (rule_measures rules ++ position_measures lists) fault h)
+pub words_passed : (lists : WordLists) (decls : List Decl) (rules : List Rule) (fault : SheetFault) → IsFirstOf (word_measures lists decls) fault → IsFirstFaultOf (all_measures lists decls rules) fault
+words_passed lists decls rules fault h = inr (first_more (word_measures lists decls) (rule_measures rules ++ position_measures lists decls) fault h)
 
-pub rules_passed : (lists : WordLists) (rules : List Rule) (fault : SheetFault) → first_passed (word_measures lists) ≡ None → IsFirstOf (rule_measures rules) fault → IsFirstFaultOf (all_measures lists rules) fault
-rules_passed lists rules fault words h =
-    let more = first_more (rule_measures rules) (position_measures lists) fault h in
-    inr (record { measure = more.measure; passed = passed_behind (word_measures lists) (rule_measures rules ++ position_measures lists) words ∙ more.passed; is = more.is })
+pub rules_passed : (lists : WordLists) (decls : List Decl) (rules : List Rule) (fault : SheetFault) → first_passed (word_measures lists decls) ≡ None → IsFirstOf (rule_measures rules) fault → IsFirstFaultOf (all_measures lists decls rules) fault
+rules_passed lists decls rules fault words h =
+    let more = first_more (rule_measures rules) (position_measures lists decls) fault h in
+    inr (record { measure = more.measure; passed = passed_behind (word_measures lists decls) (rule_measures rules ++ position_measures lists decls) words ∙ more.passed; is = more.is })
 
-pub positions_passed : (lists : WordLists) (rules : List Rule) (fault : SheetFault) → first_passed (word_measures lists) ≡ None → first_passed (rule_measures rules) ≡ None → IsFirstOf (position_measures lists) fault → IsFirstFaultOf (all_measures lists rules) fault
-positions_passed lists rules fault words within h =
-    inr (record { measure = h.measure; passed = passed_behind (word_measures lists) (rule_measures rules ++ position_measures lists) words ∙ passed_behind (rule_measures rules) (position_measures lists) within ∙ h.passed; is = h.is })
+pub positions_passed : (lists : WordLists) (decls : List Decl) (rules : List Rule) (fault : SheetFault) → first_passed (word_measures lists decls) ≡ None → first_passed (rule_measures rules) ≡ None → IsFirstOf (position_measures lists decls) fault → IsFirstFaultOf (all_measures lists decls rules) fault
+positions_passed lists decls rules fault words within h =
+    inr (record { measure = h.measure; passed = passed_behind (word_measures lists decls) (rule_measures rules ++ position_measures lists decls) words ∙ passed_behind (rule_measures rules) (position_measures lists decls) within ∙ h.passed; is = h.is })
 
-pub none_passed : (lists : WordLists) (rules : List Rule) → first_passed (word_measures lists) ≡ None → first_passed (rule_measures rules) ≡ None → first_passed (position_measures lists) ≡ None → first_passed (all_measures lists rules) ≡ None
-none_passed lists rules words within positions =
-    passed_behind (word_measures lists) (rule_measures rules ++ position_measures lists) words ∙ passed_behind (rule_measures rules) (position_measures lists) within ∙ positions
+pub none_passed : (lists : WordLists) (decls : List Decl) (rules : List Rule) → first_passed (word_measures lists decls) ≡ None → first_passed (rule_measures rules) ≡ None → first_passed (position_measures lists decls) ≡ None → first_passed (all_measures lists decls rules) ≡ None
+none_passed lists decls rules words within positions =
+    passed_behind (word_measures lists decls) (rule_measures rules ++ position_measures lists decls) words ∙ passed_behind (rule_measures rules) (position_measures lists decls) within ∙ positions
+
+-- what the quantities are at most where none passes its limit
+pub record AreWithin (lists : WordLists) (decls : List Decl) (rules : List Rule) : Type 0 where
+  pub few_tokens : length lists.literals ≤ 250
+  pub few_skips : sum_by skips_in decls ≤ 50
+  pub few_names : length lists.names ≤ 500
+  pub few_rules : length rules ≤ 1000
+  pub short_sides : long_side rules ≤ 20
+  pub few_symbols : symbols_of rules ≤ 4000
+  pub few_positions : sum_by positions_in decls + sum_by length (unnamed_in lists) ≤ 5000
+
+pub none_over : (lists : WordLists) (decls : List Decl) (rules : List Rule) → first_passed (all_measures lists decls rules) ≡ None → AreWithin lists decls rules
+none_over lists decls rules none =
+    let tokens = length lists.literals in
+    let skips = sum_by skips_in decls in
+    let names = length lists.names in
+    let positions = sum_by positions_in decls + sum_by length (unnamed_in lists) in
+    let symbols_on : List Measure = measure Symbols (symbols_of rules) 4000 ∷ position_measures lists decls in
+    let sides_on : List Measure = measure RightSide (long_side rules) 20 ∷ symbols_on in
+    let rules_on : List Measure = measure Rules (length rules) 1000 ∷ sides_on in
+    let names_on : List Measure = measure Names names 500 ∷ rules_on in
+    let skips_on : List Measure = measure Skips skips 50 ∷ names_on in
+    let behind_tokens = rest_keeps Tokens tokens 250 skips_on none (nat_lt 250 tokens) refl in
+    let behind_skips = rest_keeps Skips skips 50 names_on behind_tokens (nat_lt 50 skips) refl in
+    let behind_names = rest_keeps Names names 500 rules_on behind_skips (nat_lt 500 names) refl in
+    let behind_rules = rest_keeps Rules (length rules) 1000 sides_on behind_names (nat_lt 1000 (length rules)) refl in
+    let behind_sides = rest_keeps RightSide (long_side rules) 20 symbols_on behind_rules (nat_lt 20 (long_side rules)) refl in
+    let behind_symbols = rest_keeps Symbols (symbols_of rules) 4000 (position_measures lists decls) behind_sides (nat_lt 4000 (symbols_of rules)) refl in
+    record {
+      few_tokens = at_most Tokens tokens 250 skips_on none (nat_lt 250 tokens) refl;
+      few_skips = at_most Skips skips 50 names_on behind_tokens (nat_lt 50 skips) refl;
+      few_names = at_most Names names 500 rules_on behind_skips (nat_lt 500 names) refl;
+      few_rules = at_most Rules (length rules) 1000 sides_on behind_names (nat_lt 1000 (length rules)) refl;
+      short_sides = at_most RightSide (long_side rules) 20 symbols_on behind_rules (nat_lt 20 (long_side rules)) refl;
+      few_symbols = at_most Symbols (symbols_of rules) 4000 (position_measures lists decls) behind_sides (nat_lt 4000 (symbols_of rules)) refl;
+      few_positions = at_most Positions positions 5000 [] behind_symbols (nat_lt 5000 positions) refl;
+    }

@@ -16,6 +16,10 @@ pub flat_map-next : {X Y : Type 0} (f : X → List Y) (xs : List X) (i : ℕ) (x
 flat_map-next f xs i x within read =
     ap (flat_map f) (take_more xs i x within) ∙ flat_map-append f (take i xs) (get_or xs i x ∷ []) ∙ ap (λ ys. flat_map f (take i xs) ++ ys) (append-nil (f (get_or xs i x)) ∙ ap f (sym read))
 
+pub joined_next : {X Y : Type 0} (f : X → List Y) (seen xs : List X) (i : ℕ) (x : X) → seen ≡ xs → i < length seen → x ≡ get_or seen i x → flat_map f (take i xs) ++ f x ≡ flat_map f (take (i + 1) xs)
+joined_next f seen xs i x same within read =
+    subst (λ ys. flat_map f (take i ys) ++ f x ≡ flat_map f (take (i + 1) ys)) same (sym (flat_map-next f seen i x within read))
+
 -- the words of the elements so far, and those of one more
 next_of : {X : Type 0} (f : X → List Word) (base : List (List ℕ)) (xs : List X) (i : ℕ) (x : X) → i < length xs → x ≡ get_or xs i x
     → with_words (with_words base (texts (flat_map f (take i xs)))) (texts (f x)) ≡ with_words base (texts (flat_map f (take (i + 1) xs)))

@@ -1,13 +1,15 @@
 -- Limits that are passed.
-use Rattle.std.specs.Prelude.{◌≡◌, ℕ, ◌⊎◌, List, [], ◌∷◌, ◌++◌, length, sum_by, Some, None, Result, MatchResult}
+use Rattle.std.specs.Prelude.{◌≡◌, ℕ, ◌+◌, ◌⊎◌, List, [], ◌∷◌, ◌++◌, length, sum_by, Some, None, Result, MatchResult}
 use Rattle.grammar_data.specs.Grammar.{Rule}
 use Rattle.lr_base.specs.IsGrammar.{symbols_of}
+use Rattle.sheet_data.specs.declared.parts.Decl.{Decl}
 use Rattle.outline_data.specs.declared.fault.LimitKind.{LimitKind}
-use Rattle.outline_data.specs.declared.fault.LimitKind.TheVariants.{Tokens, Names, Rules, RightSide, Symbols, Positions}
+use Rattle.outline_data.specs.declared.fault.LimitKind.TheVariants.{Tokens, Skips, Names, Rules, RightSide, Symbols, Positions}
 use Rattle.outline_data.specs.declared.fault.SheetFault.{SheetFault}
 use Rattle.outline_data.specs.declared.fault.SheetFault.TheVariants.{Limit, NoMemory}
-use Rattle.outline_theory.specs.Limits.{Measure, first_passed, long_side}
+use Rattle.outline_theory.specs.Limits.{Measure, first_passed, skips_in, positions_in, long_side}
 use Rattle.outline_theory.specs.Numbering.{WordLists}
+use Rattle.outline_numbers.specs.Symbols.{unnamed_in}
 
 abbrev pub one_measure : LimitKind → ℕ → ℕ → List Measure
 one_measure kind count most = record { kind = kind; count = count; most = most } ∷ []
@@ -22,21 +24,22 @@ pub record IsFirstOf (measures : List Measure) (fault : SheetFault) : Type 0 whe
 abbrev pub Keeps : {A : Type 0} → List Measure → Result A SheetFault → Type 0
 Keeps measures result = MatchResult result (λ _. first_passed measures ≡ None) (IsFirstOf measures)
 
--- the quantities of words, and those of rules
-abbrev pub word_measures : WordLists → List Measure
-word_measures lists =
-    record { kind = Tokens; count = length lists.literals; most = 250 } ∷ record { kind = Names; count = length lists.names; most = 500 } ∷ []
+-- the quantities of words and skip patterns, those of rules, and the positions
+abbrev pub word_measures : WordLists → List Decl → List Measure
+word_measures lists decls =
+    record { kind = Tokens; count = length lists.literals; most = 250 } ∷ record { kind = Skips; count = sum_by skips_in decls; most = 50 } ∷ record { kind = Names; count = length lists.names; most = 500 } ∷ []
 
 abbrev pub rule_measures : List Rule → List Measure
 rule_measures rules =
     record { kind = Rules; count = length rules; most = 1000 } ∷ record { kind = RightSide; count = long_side rules; most = 20 } ∷ record { kind = Symbols; count = symbols_of rules; most = 4000 } ∷ []
 
-abbrev pub position_measures : WordLists → List Measure
-position_measures lists = record { kind = Positions; count = sum_by length lists.literals; most = 5000 } ∷ []
+abbrev pub position_measures : WordLists → List Decl → List Measure
+position_measures lists decls =
+    record { kind = Positions; count = sum_by positions_in decls + sum_by length (unnamed_in lists); most = 5000 } ∷ []
 
 -- all of them, in their order
-abbrev pub all_measures : WordLists → List Rule → List Measure
-all_measures lists rules = word_measures lists ++ (rule_measures rules ++ position_measures lists)
+abbrev pub all_measures : WordLists → List Decl → List Rule → List Measure
+all_measures lists decls rules = word_measures lists decls ++ (rule_measures rules ++ position_measures lists decls)
 
 -- want of memory, or the first limit that is passed
 abbrev pub IsFirstFaultOf : List Measure → SheetFault → Type 0

@@ -1,5 +1,5 @@
 -- The numbers of symbols, by the words that have numbers.
-use Rattle.std.specs.Prelude.{◌≡◌, ℕ, ◌≤◌, true, false, List, ◌∷◌, length, All}
+use Rattle.std.specs.Prelude.{◌≡◌, ℕ, ◌≤◌, true, false, List, ◌∷◌, length, drop, All}
 use Rattle.outline_data.specs.declared.rules.Symbol.{Symbol}
 use Rattle.outline_data.specs.declared.rules.Symbol.TheVariants.{Name, Quoted}
 use Rattle.outline_data.specs.AlternativeParts.{AlternativeParts}
@@ -16,6 +16,10 @@ pub record AreVocabularies (numbers : Numbers) : Type 0 where
   pub tokens : IsVocabulary numbers.tokens
   pub literals : IsVocabulary numbers.literals
   pub names : IsVocabulary numbers.names
+
+-- the literals without a name: those behind the ones of the declared tokens
+abbrev pub unnamed_in : WordLists → List (List ℕ)
+unnamed_in lists = drop (length lists.tokens) lists.literals
 
 -- vocabularies within the limits
 pub record AreNumbers (numbers : Numbers) : Type 0 where

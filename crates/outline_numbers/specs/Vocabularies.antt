@@ -1,5 +1,5 @@
 -- Words by their places.
-use Rattle.std.specs.Prelude.{◌≡◌, ℕ, ◌<◌, ◌↔◌, true, false, if◌then◌else◌, List, [], ◌∷◌, ◌++◌, length, map, Option, Some, slice_get, MatchOption}
+use Rattle.std.specs.Prelude.{◌≡◌, ℕ, ◌<◌, true, false, if◌then◌else◌, List, [], ◌∷◌, ◌++◌, length, map, Option, None, Some, MatchOption}
 use Rattle.std.specs.HashMap.{get_by}
 use Rattle.std.specs.Str.{bytes_eq}
 use Rattle.outline_theory.specs.Numbering.{is_one_of, index_of}
@@ -13,9 +13,13 @@ words_of v = map (λ word. word.now) v.words.items
 abbrev pub place_in : Vocabulary → List ℕ → Option ℕ
 place_in v word = get_by (λ key. bytes_eq word key.now) v.places
 
--- a look-up gives the place of each word, and nothing else; so no word has two places
+-- the first place of a word, where it is one of the list
+abbrev pub first_place : List (List ℕ) → List ℕ → Option ℕ
+first_place words word = if is_one_of words word then Some (index_of words word) else None
+
+-- a look-up gives the first place of each word, and nothing else
 abbrev pub IsVocabulary : Vocabulary → Type 0
-IsVocabulary v = (word : List ℕ) (i : ℕ) → (place_in v word ≡ Some i) ↔ (slice_get (words_of v) i ≡ Some word)
+IsVocabulary v = (word : List ℕ) → place_in v word ≡ first_place (words_of v) word
 
 -- the words and then this one, where it is none of them
 abbrev pub with_word : List (List ℕ) → List ℕ → List (List ℕ)

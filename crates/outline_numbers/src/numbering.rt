@@ -1,16 +1,14 @@
 //! An outline with its numbers.
-ghost use Rattle.std.specs.Prelude.{◌≡◌, ◌<◌, ◌≤◌, ◌^◌, length, drop, sum_by, All, None, IfOk, IfErr, MatchResult};
+ghost use Rattle.std.specs.Prelude.{◌≡◌, ◌+◌, ◌<◌, ◌≤◌, ◌^◌, length, sum_by, All, None, IfOk, IfErr, MatchResult};
 ghost use Rattle.lr_base.specs.IsGrammar.{IsGrammar};
 ghost use Rattle.outline_theory.specs.Spelling.{IsShaped};
-ghost use Rattle.outline_theory.specs.Outlines.{IsPlain};
 ghost use Rattle.outline_theory.specs.Reading.{IsFaultless};
-ghost use Rattle.outline_theory.specs.Words.{literal_words};
 ghost use Rattle.std.specs.List.{flat_map};
-ghost use Rattle.outline_theory.specs.Numbering.{lists_of, unnamed_literals, token_literals, rules_by};
-ghost use Rattle.outline_theory.specs.Limits.{first_passed};
-ghost use Rattle.outline_numbers.specs.Symbols.{AreNumbers, AreVocabularies, IsKnownGroup, lists_in};
+ghost use Rattle.outline_theory.specs.Numbering.{AreDecls, lists_of, unnamed_literals, rules_by};
+ghost use Rattle.outline_theory.specs.Limits.{first_passed, positions_in};
+ghost use Rattle.outline_numbers.specs.Symbols.{AreNumbers, AreVocabularies, IsKnownGroup, lists_in, unnamed_in};
 ghost use Rattle.outline_numbers.specs.Passing.{IsFirstFaultOf, all_measures};
-ghost use Rattle.outline_numbers.specs.Numbered.{IsNumbered, KeepsLimits, IsLimitFault, IsOrdinary};
+ghost use Rattle.outline_numbers.specs.Numbered.{IsNumbered, sheet_with, KeepsLimits, IsLimitFault, IsOrdinary};
 
 use crate::copies::copy_words;
 use crate::limits::{check_positions, check_rules, check_words};
@@ -19,8 +17,8 @@ use crate::rules::all_rules;
 use crate::start::start_of;
 use crate::words::{grammar_names, literals, token_names};
 use lr_base::{Grammar, NameId, NoMemory, Rule};
-use outline_data::{Declaration, Outline, SheetFault};
-use sheet_data::Bytes;
+use outline_data::{Outline, SheetFault};
+use sheet_data::{Bytes, Decl};
 use std::alloc::Global;
 
 /// What an outline's numbers make of it.
@@ -35,8 +33,7 @@ pub struct Numbered {
 
 /// The words of an outline that have numbers.
 fn find_numbers(alloc: Global, outline: &Outline) -> Result<Numbers<'_>, NoMemory>
-    requires faultless { IsFaultless outline.now }
-    requires plain { IsPlain outline.now }
+    requires { IsFaultless outline.now }
     ensures numbers { IfOk result (λ n. AreVocabularies n) }
     ensures lists { IfOk result (λ n. lists_in n ≡ lists_of outline.now) }
 {
@@ -45,19 +42,6 @@ fn find_numbers(alloc: Global, outline: &Outline) -> Result<Numbers<'_>, NoMemor
         literals: literals(alloc, outline)?,
         names: grammar_names(alloc, outline)?,
     })
-}
-
-/// How many literals declarations name.
-fn count_named(outline: &Outline) -> usize
-    ensures { result ≡ length (literal_words outline.now) }
-{
-    let mut count = 0;
-    for declaration in &outline.declarations {
-        if let Declaration::Literal { .. } = declaration {
-            count += 1;
-        }
-    }
-    count
 }
 
 /// The grammar of these parts.
@@ -89,43 +73,30 @@ fn rules_within(
     alloc: Global,
     numbers: &Numbers<'_>,
     outline: &Outline,
+    decls: &[Decl],
 ) -> Result<Vec<Rule>, SheetFault>
     requires vocabularies { AreVocabularies numbers.now }
     requires tokens { length (lists_in numbers.now).tokens ≤ length (lists_in numbers.now).literals }
     requires known { All (IsKnownGroup (lists_in numbers.now)) outline.now.groups }
-    requires small { sum_by length (lists_in numbers.now).literals < 2 ^ 64 }
+    requires small { sum_by positions_in decls.now + sum_by length (unnamed_in (lists_in numbers.now)) < 2 ^ 64 }
     ensures numbers { IfOk result (λ _. AreNumbers numbers.now) }
     ensures rules { IfOk result (λ rules. rules.items ≡ flat_map (rules_by (lists_in numbers.now)) outline.now.groups) }
-    ensures limits { IfOk result (λ _. first_passed (all_measures (lists_in numbers.now) (flat_map (rules_by (lists_in numbers.now)) outline.now.groups)) ≡ None) }
-    ensures fault { IfErr result (λ fault. IsFirstFaultOf (all_measures (lists_in numbers.now) (flat_map (rules_by (lists_in numbers.now)) outline.now.groups)) fault) }
+    ensures limits { IfOk result (λ _. first_passed (all_measures (lists_in numbers.now) decls.now (flat_map (rules_by (lists_in numbers.now)) outline.now.groups)) ≡ None) }
+    ensures fault { IfErr result (λ fault. IsFirstFaultOf (all_measures (lists_in numbers.now) decls.now (flat_map (rules_by (lists_in numbers.now)) outline.now.groups)) fault) }
 {
-    check_words(numbers)?;
+    check_words(numbers, decls)?;
     let rules = all_rules(alloc, numbers, outline)?;
     check_rules(&rules)?;
-    check_positions(numbers)?;
+    check_positions(numbers, decls)?;
     Ok(rules)
 }
 
-/// The words behind so many.
-fn words_behind<'b, 'a>(words: &'b [&'a [u8]], count: usize) -> &'b [&'a [u8]]
-    requires { count ≤ length words.now }
-    ensures { result.now ≡ drop count words.now }
-{
-    &words[count..]
-}
-
 /// The literals without a name.
-fn copy_unnamed(
-    alloc: Global,
-    numbers: &Numbers<'_>,
-    outline: &Outline,
-) -> Result<Vec<Bytes>, NoMemory>
-    requires lists { lists_in numbers.now ≡ lists_of outline.now }
-    requires plain { IsPlain outline.now }
-    ensures { IfOk result (λ copies. copies.items ≡ unnamed_literals outline.now) }
+fn copy_unnamed(alloc: Global, numbers: &Numbers<'_>) -> Result<Vec<Bytes>, NoMemory>
+    requires { length (lists_in numbers.now).tokens ≤ length (lists_in numbers.now).literals }
+    ensures { IfOk result (λ copies. copies.items ≡ unnamed_in (lists_in numbers.now)) }
 {
-    let named = count_named(outline);
-    copy_words(alloc, words_behind(&numbers.literals.words, named))
+    copy_words(alloc, numbers.unnamed())
 }
 
 /// The names of the grammar.
@@ -135,26 +106,30 @@ fn copy_names(alloc: Global, numbers: &Numbers<'_>) -> Result<Vec<Bytes>, NoMemo
     copy_words(alloc, &numbers.names.words)
 }
 
-/// Numbers the tokens, the literals, the names and the rules of an outline that has no fault on its lines. The first limit
-/// that is passed is the fault.
-pub fn number_outline(alloc: Global, outline: &Outline) -> Result<Numbered, SheetFault>
+/// Numbers the tokens, the literals, the names and the rules of an outline that has no fault on its lines; `decls` are the
+/// declarations that its sheet keeps. The first limit that is passed is the fault.
+pub fn number_outline(
+    alloc: Global,
+    outline: &Outline,
+    decls: &[Decl],
+) -> Result<Numbered, SheetFault>
     requires faultless { IsFaultless outline.now }
-    requires plain { IsPlain outline.now }
     requires shaped { IsShaped outline.now }
-    requires small { sum_by length (token_literals outline.now) < 2 ^ 64 }
+    requires decls { AreDecls outline.now.declarations decls.now }
+    requires small { sum_by positions_in decls.now + sum_by length (unnamed_literals outline.now) < 2 ^ 64 }
     ensures numbers { IfOk result (λ n. IsNumbered outline.now n) }
-    ensures limits { MatchResult result (λ _. KeepsLimits outline.now) (IsLimitFault outline.now) }
-    ensures ordinary { IfOk result (λ _. IsOrdinary outline.now) }
+    ensures limits { MatchResult result (λ _. KeepsLimits (sheet_with outline.now decls.now)) (IsLimitFault (sheet_with outline.now decls.now)) }
+    ensures ordinary { IfOk result (λ _. IsOrdinary outline.now decls.now) }
 {
     let numbers = find_numbers(alloc, outline)?;
-    let rules = match rules_within(alloc, &numbers, outline) {
+    let rules = match rules_within(alloc, &numbers, outline, decls) {
         Ok(rules) => rules,
         Err(fault) => return Err(fault),
     };
     let start = start_of(outline, &numbers);
     let grammar = grammar_of(&numbers, rules, start);
     Ok(Numbered {
-        literals: copy_unnamed(alloc, &numbers, outline)?,
+        literals: copy_unnamed(alloc, &numbers)?,
         names: copy_names(alloc, &numbers)?,
         grammar,
     })

@@ -1,8 +1,8 @@
 //! The numbers of symbols.
-ghost use Rattle.std.specs.Prelude.{◌≡◌, true, if◌then◌else◌};
+ghost use Rattle.std.specs.Prelude.{◌≡◌, ◌≤◌, true, length, map, drop, if◌then◌else◌};
 ghost use Rattle.grammar_data.specs.declared.rule.Sym.TheVariants.{Token as token_symbol, Name as name_symbol};
 ghost use Rattle.outline_theory.specs.Numbering.{is_one_of, index_of, symbol_by};
-ghost use Rattle.outline_numbers.specs.Symbols.{AreNumbers, IsKnown, IsKnownName, lists_in};
+ghost use Rattle.outline_numbers.specs.Symbols.{AreNumbers, IsKnown, IsKnownName, lists_in, unnamed_in};
 
 use crate::vocabulary::Vocabulary;
 use lr_base::{NameId, Sym, TokenId};
@@ -17,7 +17,23 @@ pub struct Numbers<'a> {
     pub names: Vocabulary<'a>,
 }
 
+/// The words behind so many.
+fn words_behind<'b, 'a>(words: &'b [&'a [u8]], count: usize) -> &'b [&'a [u8]]
+    requires { count ≤ length words.now }
+    ensures { result.now ≡ drop count words.now }
+{
+    &words[count..]
+}
+
 impl<'a> Numbers<'a> {
+    /// The literals without a name.
+    pub fn unnamed(&self) -> &[&'a [u8]]
+        requires { length (lists_in self.now).tokens ≤ length (lists_in self.now).literals }
+        ensures { map (λ word. word.now) result.now ≡ unnamed_in (lists_in self.now) }
+    {
+        words_behind(&self.literals.words, self.tokens.len())
+    }
+
     /// The number of a name of the grammar.
     pub fn name(&self, word: &[u8]) -> NameId
         requires numbers { AreNumbers self.now }

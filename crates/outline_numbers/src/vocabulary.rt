@@ -6,7 +6,7 @@ use lr_base::NoMemory;
 use std::alloc::Global;
 use std::collections::HashMap;
 
-/// Words that differ, in the order in which they were noted, each with its place among them.
+/// Words in the order in which they were put in, each with its first place among them.
 #[derive(Drop)]
 pub struct Vocabulary<'a> {
     pub words: Vec<&'a [u8]>,
@@ -24,21 +24,33 @@ impl<'a> Vocabulary<'a> {
         }
     }
 
+    /// Puts the word behind the others.
+    pub fn push(&mut self, word: &'a [u8]) -> Result<(), NoMemory>
+        requires { IsVocabulary self.old }
+        ensures words { OnOk result (words_of self.new ≡ words_of self.old ++ word.now ∷ []) }
+        ensures places { OnOk result (IsVocabulary self.new) }
+    {
+        let next = self.words.len();
+        self.words.push(word)?;
+        if self.places.get(word).is_none() {
+            self.places.insert(word, next)?;
+        }
+        Ok(())
+    }
+
     /// Puts the word behind the others, where it is none of them.
     pub fn note(&mut self, word: &'a [u8]) -> Result<(), NoMemory>
         requires { IsVocabulary self.old }
         ensures words { OnOk result (words_of self.new ≡ with_word (words_of self.old) word.now) }
         ensures places { OnOk result (IsVocabulary self.new) }
     {
-        let next = self.words.len();
-        if self.places.get(word).is_none() {
-            self.words.push(word)?;
-            self.places.insert(word, next)?;
+        match self.place_of(word) {
+            Some(_) => Ok(()),
+            None => self.push(word),
         }
-        Ok(())
     }
 
-    /// The word's place, where it has one.
+    /// The word's first place, where it has one.
     pub fn place_of(&self, word: &[u8]) -> Option<usize>
         requires { IsVocabulary self.now }
         ensures { IsFound (words_of self.now) word.now result }

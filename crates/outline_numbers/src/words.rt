@@ -1,7 +1,8 @@
 //! The words of an outline, in the order of their numbers.
-ghost use Rattle.std.specs.Prelude.{◌≡◌, [], ◌∷◌, OnOk, IfOk};
+ghost use Rattle.std.specs.Prelude.{◌≡◌, [], ◌∷◌, ◌++◌, OnOk, IfOk};
 ghost use Rattle.std.specs.List.{flat_map};
-ghost use Rattle.outline_theory.specs.Words.{texts, token_in, token_words, literal_in, literal_words, left_words, quoted_in, side_literals};
+ghost use Rattle.outline_theory.specs.Words.{texts, token_in, token_words, left_words, quoted_in, side_literals};
+ghost use Rattle.outline_theory.specs.Numbering.{literal_of_token};
 ghost use Rattle.outline_numbers.specs.Vocabularies.{IsVocabulary, words_of, with_words};
 
 use crate::vocabulary::Vocabulary;
@@ -35,31 +36,30 @@ pub fn token_names(alloc: Global, outline: &Outline) -> Result<Vocabulary<'_>, N
     Ok(words)
 }
 
-/// Notes the literal that a declaration names.
-fn note_literal<'a>(
+/// Puts in the bytes of the literal of the token that a declaration declares: none for the token of a pattern.
+fn push_literal<'a>(
     words: &mut Vocabulary<'a>,
     declaration: &'a Declaration,
 ) -> Result<(), NoMemory>
     requires { IsVocabulary words.old }
-    ensures words { OnOk result (words_of words.new ≡ with_words (words_of words.old) (texts (literal_in declaration.now))) }
+    ensures words { OnOk result (words_of words.new ≡ words_of words.old ++ literal_of_token declaration.now) }
     ensures places { OnOk result (IsVocabulary words.new) }
 {
     match declaration {
-        Declaration::Literal { literal, .. } => words.note(literal.bytes.as_slice()),
-        Declaration::Matched { .. } | Declaration::Skip { .. } | Declaration::Start { .. } => Ok(
-            (),
-        ),
+        Declaration::Literal { literal, .. } => words.push(literal.bytes.as_slice()),
+        Declaration::Matched { .. } => words.push(&[]),
+        Declaration::Skip { .. } | Declaration::Start { .. } => Ok(()),
     }
 }
 
-/// The literals that declarations name.
-fn named_literals(alloc: Global, outline: &Outline) -> Result<Vocabulary<'_>, NoMemory>
-    ensures words { IfOk result (λ v. words_of v ≡ with_words [] (texts (literal_words outline.now))) }
+/// The literals of the declared tokens, by number; no bytes stand for the token of a pattern.
+fn declared_literals(alloc: Global, outline: &Outline) -> Result<Vocabulary<'_>, NoMemory>
+    ensures words { IfOk result (λ v. words_of v ≡ flat_map literal_of_token outline.now.declarations) }
     ensures places { IfOk result (λ v. IsVocabulary v) }
 {
     let mut words = Vocabulary::new(alloc);
     for declaration in &outline.declarations {
-        note_literal(&mut words, declaration)?;
+        push_literal(&mut words, declaration)?;
     }
     Ok(words)
 }
@@ -100,12 +100,13 @@ fn note_sides<'a>(words: &mut Vocabulary<'a>, group: &'a RuleGroup) -> Result<()
     Ok(())
 }
 
-/// The literals: those that declarations name, and then the others in the order of their first use.
+/// The literals of all tokens, by number: those of the declared tokens, and then those without a name in the order of
+/// their first use.
 pub fn literals(alloc: Global, outline: &Outline) -> Result<Vocabulary<'_>, NoMemory>
-    ensures words { IfOk result (λ v. words_of v ≡ with_words (with_words [] (texts (literal_words outline.now))) (texts (side_literals outline.now))) }
+    ensures words { IfOk result (λ v. words_of v ≡ with_words (flat_map literal_of_token outline.now.declarations) (texts (side_literals outline.now))) }
     ensures places { IfOk result (λ v. IsVocabulary v) }
 {
-    let mut words = named_literals(alloc, outline)?;
+    let mut words = declared_literals(alloc, outline)?;
     for group in &outline.groups {
         note_sides(&mut words, group)?;
     }

@@ -1,14 +1,12 @@
 -- What the lexemes that were read say of the sheet.
-use Rattle.std.proofs.Common.{◌≡◌, ◌≢◌, ℕ, ◌+◌, ◌<◌, ◌≤◌, Bool, true, false, List, length, refl, sym, ap, subst, ◌∙◌, arith}
-use Rattle.std.specs.Prelude.{◌↔◌, IsTrue, min, Option, None, Some, MatchBool, if◌then◌else◌, Result, Ok, Err, IfOk, IfErr}
+use Rattle.std.proofs.Common.{◌≡◌, ◌≢◌, ℕ, ◌+◌, ◌<◌, ◌≤◌, Bool, true, false, List, length, sym, ap, subst, ◌∙◌, arith}
+use Rattle.std.specs.Prelude.{◌↔◌, IsTrue, min, None, Some, MatchBool, if◌then◌else◌, Result, Ok, Err, IfOk, IfErr}
 use Rattle.std.specs.Result.{IsErrAnd}
 use Rattle.std.proofs.lemmas.Bool.{false≢true}
 use Rattle.lexeme_theory.specs.declared.lexeme.Lexeme.{Lexeme}
-use Rattle.lexeme_theory.specs.declared.lexeme.Lexeme.TheVariants.{Pattern}
 use Rattle.lexeme_theory.specs.declared.found.FaultKind.{FaultKind}
 use Rattle.lexeme_theory.specs.declared.found.FaultKind.TheVariants.{BadByte as bad_byte_kind, Syntax as syntax_kind}
 use Rattle.lexeme_theory.specs.Lines.{line_of}
-use Rattle.lexeme_theory.specs.Stands.{IsLexeme}
 use Rattle.lexeme_theory.proofs.ReadingLemmas.{blanks_read, reading_order, lexeme_on}
 use Rattle.lexeme_theory.proofs.LineLemmas.{lines_before-most}
 use Rattle.sheet_lexemes.specs.declared.cursor.Cursor.{Cursor}
@@ -18,7 +16,7 @@ use Rattle.sheet_lexemes.specs.declared.read.Read.{Read}
 use Rattle.sheet_lexemes.specs.declared.read.Read.TheVariants.{Lexeme as lexeme_read, End}
 use Rattle.sheet_lexemes.specs.Cursors.{IsLexemeRead, IsEndRead, IsRead, IsFaultOn, IsLexFault}
 use Rattle.outline_data.specs.declared.fault.SheetFault.{SheetFault}
-use Rattle.outline_data.specs.declared.fault.SheetFault.TheVariants.{BadByte, Syntax, FormNotBuilt, BadPattern, PatternMatchesEmpty, Redeclared, UnknownSymbol, NoRules, PlaceOutOfRange, PlaceTwice, NotAToken, Limit, NoMemory}
+use Rattle.outline_data.specs.declared.fault.SheetFault.TheVariants.{BadByte, Syntax, BadPattern, PatternMatchesEmpty, Redeclared, UnknownSymbol, NoRules, PlaceOutOfRange, PlaceTwice, NotAToken, Limit, NoMemory}
 use Rattle.outline_data.specs.Parts.{OutlineParts}
 use Rattle.outline_theory.specs.Outlines.{IsOutlineOf, IsLexicalFault}
 use Rattle.outline_theory.specs.Outlines.IsWrongAt.{no_lexeme as wrong_no_lexeme}
@@ -26,7 +24,7 @@ use Rattle.stage_theory.specs.Stages.Stage.{ended}
 use Rattle.stage_theory.specs.Drafts.{Draft, stage_of, next_draft}
 use Rattle.stage_theory.specs.Drafts.RuleDraft.{no_rule, rules_ended}
 use Rattle.stage_theory.specs.Drafts.Draft.{ruling}
-use Rattle.stage_theory.proofs.ReadLemmas.{IsReadSoFar, so_far_blanks, so_far_lexeme, pattern_form, wrong_fault, refused_fault as refused_syntax, end_fault as end_syntax, outline_of}
+use Rattle.stage_theory.proofs.ReadLemmas.{IsReadSoFar, so_far_blanks, so_far_lexeme, wrong_fault, refused_fault as refused_syntax, end_fault as end_syntax, outline_of}
 use Rattle.outline_reader.specs.Progress.{IsFinished, IsUnfinished}
 use Rattle.outline_reader.specs.Refusals.{IsRefused, IsNoLexeme}
 use Rattle.outline_reader.specs.Faults.{IsOutlineFault}
@@ -54,33 +52,21 @@ read_on bytes from lexeme begins behind r =
     let on = lexeme_on bytes begins.at behind.at lexeme r.stands in let blanks = reading_order bytes (blanks_read bytes r.blanks) in omega (arith, on, blanks)
 
 -- and the lexeme is taken
-pub so_far_more : (bytes : List ℕ) (from : ℕ) (draft next : Draft) (lexeme : Lexeme) (begins behind : Cursor) (line : ℕ) → IsReadSoFar bytes from draft → IsLexemeRead bytes from lexeme begins behind → line ≡ begins.line → next_draft draft lexeme line ≡ Some next → ((text : List ℕ) → lexeme ≢ Pattern text) → IsReadSoFar bytes behind.at next
-so_far_more bytes from draft next lexeme begins behind line h r same e plain =
+pub so_far_more : (bytes : List ℕ) (from : ℕ) (draft next : Draft) (lexeme : Lexeme) (begins behind : Cursor) (line : ℕ) → IsReadSoFar bytes from draft → IsLexemeRead bytes from lexeme begins behind → line ≡ begins.line → next_draft draft lexeme line ≡ Some next → IsReadSoFar bytes behind.at next
+so_far_more bytes from draft next lexeme begins behind line h r same e =
     let P : ℕ → Type 0 = λ n. next_draft draft lexeme n ≡ Some next in
-    so_far_lexeme bytes begins.at draft (so_far_blanks bytes from begins.at draft h r.blanks) behind.at next lexeme r.stands (subst P (same ∙ r.begin.line) e) plain
+    so_far_lexeme bytes begins.at draft (so_far_blanks bytes from begins.at draft h r.blanks) behind.at next lexeme r.stands (subst P (same ∙ r.begin.line) e)
 
 module _ (bytes : List ℕ) (from : ℕ) (draft : Draft) (h : IsReadSoFar bytes from draft) (open_sheet : stage_of draft ≢ ended) where
   on_line : (kind : FaultKind) (at line : ℕ) → line ≡ line_of bytes at → IsLexicalFault bytes kind (line_of bytes at) → IsLexicalFault bytes kind line
   on_line kind at line e f = let P : ℕ → Type 0 = λ n. IsLexicalFault bytes kind n in subst P (sym e) f
 
-  no_more : (next : Option Draft) → next ≢ None → (draft : Draft) × (next ≡ Some draft)
-  no_more None some = absurd (some refl)
-  no_more (Some n) some = (n, refl)
-
   -- a lexeme that isn't taken is a fault
-  pub refused_fault : (lexeme : Lexeme) (begins behind : Cursor) (line : ℕ) (fault : SheetFault) → IsLexemeRead bytes from lexeme begins behind → line ≡ begins.line → IsRefused (next_draft draft lexeme line) lexeme line fault → IsOutlineFault bytes fault
+  pub refused_fault : (lexeme : Lexeme) (begins behind : Cursor) (line : ℕ) (fault : SheetFault) → IsLexemeRead bytes from lexeme begins behind → line ≡ begins.line → IsRefused (next_draft draft lexeme line) line fault → IsOutlineFault bytes fault
   refused_fault lexeme begins behind line (Syntax on) r same refused =
       let at : line ≡ line_of bytes begins.at = same ∙ r.begin.line in
       let P : ℕ → Type 0 = λ n. next_draft draft lexeme n ≡ None in
       on_line syntax_kind begins.at on (refused.1 ∙ at) (refused_syntax bytes begins.at draft (so_far_blanks bytes from begins.at draft h r.blanks) behind.at lexeme open_sheet r.stands (subst P at refused.0))
-  refused_fault lexeme begins behind line FormNotBuilt r same refused =
-      let text : List ℕ = refused.1.0 in
-      let is : lexeme ≡ Pattern text = refused.1.1 in
-      let next = no_more (next_draft draft lexeme line) refused.0 in
-      let P : ℕ → Type 0 = λ n. next_draft draft lexeme n ≡ Some next.0 in
-      let Q : Lexeme → Type 0 = λ l. next_draft draft l (line_of bytes begins.at) ≡ Some next.0 in
-      let R : Lexeme → Type 0 = λ l. IsLexeme bytes begins.at l behind.at in
-      pattern_form bytes begins.at draft (so_far_blanks bytes from begins.at draft h r.blanks) behind.at next.0 text (subst R is r.stands) (subst Q is (subst P (same ∙ r.begin.line) next.1))
   refused_fault lexeme begins behind line NoMemory r same refused = tt
   refused_fault lexeme begins behind line (BadByte on) r same refused = absurd refused
   refused_fault lexeme begins behind line (BadPattern on) r same refused = absurd refused
@@ -101,7 +87,6 @@ module _ (bytes : List ℕ) (from : ℕ) (draft : Draft) (h : IsReadSoFar bytes 
   no_lexeme_fault (BadByte line) f = found_fault bad_byte_kind line f
   no_lexeme_fault (Syntax line) f = found_fault syntax_kind line f
   no_lexeme_fault NoMemory f = tt
-  no_lexeme_fault FormNotBuilt f = absurd f
   no_lexeme_fault (BadPattern on) f = absurd f
   no_lexeme_fault (PatternMatchesEmpty on) f = absurd f
   no_lexeme_fault (Redeclared on) f = absurd f

@@ -1,34 +1,30 @@
 -- Why a lexeme isn't taken.
-use Rattle.std.specs.Prelude.{◌≡◌, ◌≢◌, ℕ, List, Option, None}
-use Rattle.lexeme_theory.specs.declared.lexeme.Lexeme.{Lexeme}
-use Rattle.lexeme_theory.specs.declared.lexeme.Lexeme.TheVariants.{Pattern}
+use Rattle.std.specs.Prelude.{◌≡◌, ℕ, List, Option, None}
 use Rattle.lexeme_theory.specs.declared.found.FaultKind.TheVariants.{BadByte as bad_byte_kind, Syntax as syntax_kind}
 use Rattle.outline_data.specs.declared.fault.SheetFault.{SheetFault}
-use Rattle.outline_data.specs.declared.fault.SheetFault.TheVariants.{BadByte, Syntax, FormNotBuilt, BadPattern, PatternMatchesEmpty, Redeclared, UnknownSymbol, NoRules, PlaceOutOfRange, PlaceTwice, NotAToken, Limit, NoMemory}
+use Rattle.outline_data.specs.declared.fault.SheetFault.TheVariants.{BadByte, Syntax, BadPattern, PatternMatchesEmpty, Redeclared, UnknownSymbol, NoRules, PlaceOutOfRange, PlaceTwice, NotAToken, Limit, NoMemory}
 use Rattle.stage_theory.specs.Drafts.{Draft}
 use Rattle.sheet_lexemes.specs.Cursors.{IsFaultOn}
 
--- a lexeme on a line isn't taken by the draft that has this next one: there is none, or the lexeme is a pattern
-abbrev pub IsRefused : Option Draft → Lexeme → ℕ → SheetFault → Type 0
-IsRefused next lexeme line (BadByte on) = ⊥
-IsRefused next lexeme line (Syntax on) = (next ≡ None) × (on ≡ line)
-IsRefused next lexeme line FormNotBuilt = (next ≢ None) × ((text : List ℕ) × (lexeme ≡ Pattern text))
-IsRefused next lexeme line (BadPattern on) = ⊥
-IsRefused next lexeme line (PatternMatchesEmpty on) = ⊥
-IsRefused next lexeme line (Redeclared on) = ⊥
-IsRefused next lexeme line (UnknownSymbol on) = ⊥
-IsRefused next lexeme line NoRules = ⊥
-IsRefused next lexeme line (PlaceOutOfRange on) = ⊥
-IsRefused next lexeme line (PlaceTwice on) = ⊥
-IsRefused next lexeme line (NotAToken on) = ⊥
-IsRefused next lexeme line (Limit kind count) = ⊥
-IsRefused next lexeme line NoMemory = Unit {0}
+-- a lexeme on a line isn't taken by the draft that has this next one: there is none
+abbrev pub IsRefused : Option Draft → ℕ → SheetFault → Type 0
+IsRefused next line (BadByte on) = ⊥
+IsRefused next line (Syntax on) = (next ≡ None) × (on ≡ line)
+IsRefused next line (BadPattern on) = ⊥
+IsRefused next line (PatternMatchesEmpty on) = ⊥
+IsRefused next line (Redeclared on) = ⊥
+IsRefused next line (UnknownSymbol on) = ⊥
+IsRefused next line NoRules = ⊥
+IsRefused next line (PlaceOutOfRange on) = ⊥
+IsRefused next line (PlaceTwice on) = ⊥
+IsRefused next line (NotAToken on) = ⊥
+IsRefused next line (Limit kind count) = ⊥
+IsRefused next line NoMemory = Unit {0}
 
 -- no lexeme stands behind the blanks
 abbrev pub IsNoLexeme : List ℕ → ℕ → SheetFault → Type 0
 IsNoLexeme bytes from (BadByte line) = IsFaultOn bytes from bad_byte_kind line
 IsNoLexeme bytes from (Syntax line) = IsFaultOn bytes from syntax_kind line
-IsNoLexeme bytes from FormNotBuilt = ⊥
 IsNoLexeme bytes from (BadPattern line) = ⊥
 IsNoLexeme bytes from (PatternMatchesEmpty line) = ⊥
 IsNoLexeme bytes from (Redeclared line) = ⊥

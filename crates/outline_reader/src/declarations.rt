@@ -1,6 +1,5 @@
 //! One lexeme more among the declarations.
-ghost use Rattle.std.specs.Prelude.{◌≡◌, ◌≢◌, ℕ, List, Some, IfOk, IfErr};
-ghost use Rattle.lexeme_theory.specs.declared.lexeme.Lexeme.TheVariants.{Pattern};
+ghost use Rattle.std.specs.Prelude.{◌≡◌, Some, IfOk, IfErr};
 ghost use Rattle.stage_theory.specs.Drafts.{more_declarations, more_token, more_token_text, more_skip, more_start, more_declaring};
 ghost use Rattle.outline_reader.specs.Progress.{draft_of, open_declaration_of};
 ghost use Rattle.outline_reader.specs.Refusals.{IsRefused};
@@ -18,8 +17,7 @@ fn begin_declaration(
     line: u32,
 ) -> Result<Progress, SheetFault>
     ensures next { IfOk result (λ next. more_declarations declarations.items lexeme line ≡ Some (draft_of next)) }
-    ensures plain { IfOk result (λ _. (text : List ℕ) → lexeme ≢ Pattern text) }
-    ensures refused { IfErr result (λ fault. IsRefused (more_declarations declarations.items lexeme line) lexeme line fault) }
+    ensures refused { IfErr result (λ fault. IsRefused (more_declarations declarations.items lexeme line) line fault) }
 {
     let part = match lexeme {
         Lexeme::Directive(Directive::Token) => OpenDeclaration::TokenBegun,
@@ -45,8 +43,7 @@ fn name_token(
     line: u32,
 ) -> Result<Progress, SheetFault>
     ensures next { IfOk result (λ next. more_token declarations.items lexeme line ≡ Some (draft_of next)) }
-    ensures plain { IfOk result (λ _. (text : List ℕ) → lexeme ≢ Pattern text) }
-    ensures refused { IfErr result (λ fault. IsRefused (more_token declarations.items lexeme line) lexeme line fault) }
+    ensures refused { IfErr result (λ fault. IsRefused (more_token declarations.items lexeme line) line fault) }
 {
     match lexeme {
         Lexeme::Name(bytes) => Ok(Progress::Declaring {
@@ -67,8 +64,7 @@ fn declare_token(
     line: u32,
 ) -> Result<Progress, SheetFault>
     ensures next { IfOk result (λ next. more_token_text declarations.items name lexeme line ≡ Some (draft_of next)) }
-    ensures plain { IfOk result (λ _. (text : List ℕ) → lexeme ≢ Pattern text) }
-    ensures refused { IfErr result (λ fault. IsRefused (more_token_text declarations.items name lexeme line) lexeme line fault) }
+    ensures refused { IfErr result (λ fault. IsRefused (more_token_text declarations.items name lexeme line) line fault) }
 {
     let mut declarations = declarations;
     match lexeme {
@@ -80,7 +76,14 @@ fn declare_token(
                 part: OpenDeclaration::Nothing,
             })
         }
-        Lexeme::Pattern(_) => Err(SheetFault::FormNotBuilt),
+        Lexeme::Pattern(bytes) => {
+            let pattern = Word { bytes, line };
+            declarations.push(Declaration::Matched { name, pattern })?;
+            Ok(Progress::Declaring {
+                declarations,
+                part: OpenDeclaration::Nothing,
+            })
+        }
         _ => Err(SheetFault::Syntax(line)),
     }
 }
@@ -92,11 +95,18 @@ fn declare_skip(
     line: u32,
 ) -> Result<Progress, SheetFault>
     ensures next { IfOk result (λ next. more_skip declarations.items lexeme line ≡ Some (draft_of next)) }
-    ensures plain { IfOk result (λ _. (text : List ℕ) → lexeme ≢ Pattern text) }
-    ensures refused { IfErr result (λ fault. IsRefused (more_skip declarations.items lexeme line) lexeme line fault) }
+    ensures refused { IfErr result (λ fault. IsRefused (more_skip declarations.items lexeme line) line fault) }
 {
+    let mut declarations = declarations;
     match lexeme {
-        Lexeme::Pattern(_) => Err(SheetFault::FormNotBuilt),
+        Lexeme::Pattern(bytes) => {
+            let pattern = Word { bytes, line };
+            declarations.push(Declaration::Skip { pattern })?;
+            Ok(Progress::Declaring {
+                declarations,
+                part: OpenDeclaration::Nothing,
+            })
+        }
         _ => Err(SheetFault::Syntax(line)),
     }
 }
@@ -109,8 +119,7 @@ fn declare_start(
     line: u32,
 ) -> Result<Progress, SheetFault>
     ensures next { IfOk result (λ next. more_start declarations.items at lexeme line ≡ Some (draft_of next)) }
-    ensures plain { IfOk result (λ _. (text : List ℕ) → lexeme ≢ Pattern text) }
-    ensures refused { IfErr result (λ fault. IsRefused (more_start declarations.items at lexeme line) lexeme line fault) }
+    ensures refused { IfErr result (λ fault. IsRefused (more_start declarations.items at lexeme line) line fault) }
 {
     let mut declarations = declarations;
     match lexeme {
@@ -135,8 +144,7 @@ pub fn more_of_declarations(
     line: u32,
 ) -> Result<Progress, SheetFault>
     ensures next { IfOk result (λ next. more_declaring declarations.items (open_declaration_of part) lexeme line ≡ Some (draft_of next)) }
-    ensures plain { IfOk result (λ _. (text : List ℕ) → lexeme ≢ Pattern text) }
-    ensures refused { IfErr result (λ fault. IsRefused (more_declaring declarations.items (open_declaration_of part) lexeme line) lexeme line fault) }
+    ensures refused { IfErr result (λ fault. IsRefused (more_declaring declarations.items (open_declaration_of part) lexeme line) line fault) }
 {
     match part {
         OpenDeclaration::Nothing => begin_declaration(alloc, declarations, lexeme, line),

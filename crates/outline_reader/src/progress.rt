@@ -1,6 +1,5 @@
 //! What is read of a sheet so far.
-ghost use Rattle.std.specs.Prelude.{◌≡◌, ◌≢◌, ◌↔◌, ℕ, List, Some, IsTrue, IfOk, IfErr};
-ghost use Rattle.lexeme_theory.specs.declared.lexeme.Lexeme.TheVariants.{Pattern};
+ghost use Rattle.std.specs.Prelude.{◌≡◌, ◌↔◌, Some, IsTrue, IfOk, IfErr};
 ghost use Rattle.stage_theory.specs.Stages.Stage.{ended};
 ghost use Rattle.stage_theory.specs.Drafts.{stage_of, next_draft, first_draft};
 ghost use Rattle.outline_reader.specs.Progress.{draft_of, IsFinished, IsUnfinished};
@@ -122,8 +121,7 @@ impl Progress {
     /// One lexeme more, which stands on this line.
     pub fn with(self, alloc: Global, lexeme: Lexeme, line: u32) -> Result<Progress, SheetFault>
         ensures next { IfOk result (λ next. next_draft (draft_of self) lexeme line ≡ Some (draft_of next)) }
-        ensures plain { IfOk result (λ _. (text : List ℕ) → lexeme ≢ Pattern text) }
-        ensures refused { IfErr result (λ fault. IsRefused (next_draft (draft_of self) lexeme line) lexeme line fault) }
+        ensures refused { IfErr result (λ fault. IsRefused (next_draft (draft_of self) lexeme line) line fault) }
     {
         match self {
             Progress::Declaring { declarations, part } => {

@@ -1,7 +1,7 @@
 //! A sheet's outline.
 ghost use Rattle.std.specs.Prelude.{◌≡◌, ◌≤◌, length, IfOk, IfErr};
 ghost use Rattle.sheet_lexemes.specs.Cursors.{IsCursor, IsRead};
-ghost use Rattle.outline_theory.specs.Outlines.{IsOutlineOf, IsPlain};
+ghost use Rattle.outline_theory.specs.Outlines.{IsOutlineOf};
 ghost use Rattle.outline_reader.specs.Faults.{IsOutlineFault};
 ghost use Rattle.outline_reader.specs.Refusals.{IsNoLexeme};
 
@@ -35,12 +35,10 @@ fn line_of_place(bytes: &[u8], place: Cursor) -> u32
 }
 
 /// The outline of a sheet of at most 262,144 bytes, or its first lexical or syntactic fault, with the line on which the
-/// faulty lexeme begins. Nothing is read behind the second `%%`. Patterns are not read yet: where one stands and a sheet
-/// goes on with it, the answer is `FormNotBuilt`.
+/// faulty lexeme begins. Nothing is read behind the second `%%`. Of a pattern the outline has its text, as it stands.
 pub fn read_outline(alloc: Global, bytes: &[u8]) -> Result<Outline, SheetFault>
     requires { length bytes.now ≤ 262144 }
     ensures outline { IfOk result (λ o. IsOutlineOf bytes.now o) }
-    ensures plain { IfOk result (λ o. IsPlain o) }
     ensures fault { IfErr result (λ fault. IsOutlineFault bytes.now fault) }
 {
     let mut progress = Progress::first(alloc);

@@ -1,6 +1,5 @@
 //! One lexeme more among the rules.
-ghost use Rattle.std.specs.Prelude.{◌≡◌, ◌≢◌, ℕ, List, Some, IfOk, IfErr};
-ghost use Rattle.lexeme_theory.specs.declared.lexeme.Lexeme.TheVariants.{Pattern};
+ghost use Rattle.std.specs.Prelude.{◌≡◌, Some, IfOk, IfErr};
 ghost use Rattle.stage_theory.specs.Drafts.{more_rules, more_left, more_ruling};
 ghost use Rattle.outline_reader.specs.Progress.{draft_of, open_rule_of};
 ghost use Rattle.outline_reader.specs.Refusals.{IsRefused};
@@ -14,8 +13,7 @@ use std::alloc::Global;
 /// A left side begins, or the second `%%` ends the rules.
 fn begin_rule(finished: Finished, lexeme: Lexeme, line: u32) -> Result<Progress, SheetFault>
     ensures next { IfOk result (λ next. more_rules finished.declarations.items finished.groups.items lexeme line ≡ Some (draft_of next)) }
-    ensures plain { IfOk result (λ _. (text : List ℕ) → lexeme ≢ Pattern text) }
-    ensures refused { IfErr result (λ fault. IsRefused (more_rules finished.declarations.items finished.groups.items lexeme line) lexeme line fault) }
+    ensures refused { IfErr result (λ fault. IsRefused (more_rules finished.declarations.items finished.groups.items lexeme line) line fault) }
 {
     let part = match lexeme {
         Lexeme::Name(bytes) => OpenRule::LeftRead {
@@ -36,8 +34,7 @@ fn begin_sides(
     line: u32,
 ) -> Result<Progress, SheetFault>
     ensures next { IfOk result (λ next. more_left finished.declarations.items finished.groups.items left lexeme line ≡ Some (draft_of next)) }
-    ensures plain { IfOk result (λ _. (text : List ℕ) → lexeme ≢ Pattern text) }
-    ensures refused { IfErr result (λ fault. IsRefused (more_left finished.declarations.items finished.groups.items left lexeme line) lexeme line fault) }
+    ensures refused { IfErr result (λ fault. IsRefused (more_left finished.declarations.items finished.groups.items left lexeme line) line fault) }
 {
     match lexeme {
         Lexeme::Single(Single::Colon) => {
@@ -62,8 +59,7 @@ pub fn more_of_rules(
     line: u32,
 ) -> Result<Progress, SheetFault>
     ensures next { IfOk result (λ next. more_ruling finished.declarations.items finished.groups.items (open_rule_of part) lexeme line ≡ Some (draft_of next)) }
-    ensures plain { IfOk result (λ _. (text : List ℕ) → lexeme ≢ Pattern text) }
-    ensures refused { IfErr result (λ fault. IsRefused (more_ruling finished.declarations.items finished.groups.items (open_rule_of part) lexeme line) lexeme line fault) }
+    ensures refused { IfErr result (λ fault. IsRefused (more_ruling finished.declarations.items finished.groups.items (open_rule_of part) lexeme line) line fault) }
 {
     match part {
         OpenRule::Nothing => begin_rule(finished, lexeme, line),

@@ -1,6 +1,5 @@
 //! One lexeme more in an alternative.
-ghost use Rattle.std.specs.Prelude.{◌≡◌, ◌≢◌, ℕ, List, Some, IfOk, IfErr};
-ghost use Rattle.lexeme_theory.specs.declared.lexeme.Lexeme.TheVariants.{Pattern};
+ghost use Rattle.std.specs.Prelude.{◌≡◌, Some, IfOk, IfErr};
 ghost use Rattle.stage_theory.specs.Drafts.{more_side, more_template, more_behind, more_mark};
 ghost use Rattle.outline_reader.specs.Progress.{draft_of};
 ghost use Rattle.outline_reader.specs.Refusals.{IsRefused};
@@ -20,8 +19,7 @@ pub fn more_of_side(
     line: u32,
 ) -> Result<Progress, SheetFault>
     ensures next { IfOk result (λ next. more_side finished.declarations.items finished.groups.items group right.items lexeme line ≡ Some (draft_of next)) }
-    ensures plain { IfOk result (λ _. (text : List ℕ) → lexeme ≢ Pattern text) }
-    ensures refused { IfErr result (λ fault. IsRefused (more_side finished.declarations.items finished.groups.items group right.items lexeme line) lexeme line fault) }
+    ensures refused { IfErr result (λ fault. IsRefused (more_side finished.declarations.items finished.groups.items group right.items lexeme line) line fault) }
 {
     let mut right = right;
     let part = match lexeme {
@@ -61,8 +59,7 @@ pub fn more_of_template(
     line: u32,
 ) -> Result<Progress, SheetFault>
     ensures next { IfOk result (λ next. more_template finished.declarations.items finished.groups.items group right.items parts.items lexeme line ≡ Some (draft_of next)) }
-    ensures plain { IfOk result (λ _. (text : List ℕ) → lexeme ≢ Pattern text) }
-    ensures refused { IfErr result (λ fault. IsRefused (more_template finished.declarations.items finished.groups.items group right.items parts.items lexeme line) lexeme line fault) }
+    ensures refused { IfErr result (λ fault. IsRefused (more_template finished.declarations.items finished.groups.items group right.items parts.items lexeme line) line fault) }
 {
     let mut parts = parts;
     match lexeme {
@@ -98,8 +95,7 @@ pub fn more_behind_side(
     line: u32,
 ) -> Result<Progress, SheetFault>
     ensures next { IfOk result (λ next. more_behind finished.declarations.items finished.groups.items group alternative lexeme line ≡ Some (draft_of next)) }
-    ensures plain { IfOk result (λ _. (text : List ℕ) → lexeme ≢ Pattern text) }
-    ensures refused { IfErr result (λ fault. IsRefused (more_behind finished.declarations.items finished.groups.items group alternative lexeme line) lexeme line fault) }
+    ensures refused { IfErr result (λ fault. IsRefused (more_behind finished.declarations.items finished.groups.items group alternative lexeme line) line fault) }
 {
     let mut group = group;
     let mut finished = finished;
@@ -129,8 +125,7 @@ pub fn more_of_mark(
     line: u32,
 ) -> Result<Progress, SheetFault>
     ensures next { IfOk result (λ next. more_mark finished.declarations.items finished.groups.items group alternative lexeme line ≡ Some (draft_of next)) }
-    ensures plain { IfOk result (λ _. (text : List ℕ) → lexeme ≢ Pattern text) }
-    ensures refused { IfErr result (λ fault. IsRefused (more_mark finished.declarations.items finished.groups.items group alternative lexeme line) lexeme line fault) }
+    ensures refused { IfErr result (λ fault. IsRefused (more_mark finished.declarations.items finished.groups.items group alternative lexeme line) line fault) }
 {
     let mut alternative = alternative;
     match lexeme {

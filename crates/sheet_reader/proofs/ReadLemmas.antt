@@ -1,17 +1,27 @@
 -- What a refusal says.
-use Rattle.std.proofs.Common.{◌≡◌, ◌≢◌, ℕ, ◌+◌, ◌≤◌, ◌<◌, ◌^◌, List, [], ◌∷◌, length, Bool, true, false, refl, sym, ap, subst, arith, inl, inr}
-use Rattle.std.specs.Prelude.{sum_by, ◌==◌}
+use Rattle.std.proofs.Common.{◌≡◌, ◌≢◌, ℕ, ◌+◌, ◌≤◌, ◌<◌, ◌^◌, List, [], ◌∷◌, length, true, false, refl, sym, ap, subst, arith, inl, inr}
+use Rattle.std.specs.Prelude.{sum_by, ◌==◌, All, Contains}
 use Rattle.std.proofs.lemmas.Bool.Decides.{nat_tests}
+use Rattle.sheet_data.specs.Sheet.{Sheet}
+use Rattle.sheet_data.specs.declared.parts.Decl.{Decl}
+use Rattle.outline_data.specs.declared.outline.Word.{Word}
+use Rattle.outline_data.specs.declared.outline.Declaration.{Declaration}
+use Rattle.outline_data.specs.declared.outline.Declaration.TheVariants.{Literal, Matched, Skip, Start}
 use Rattle.outline_data.specs.declared.fault.SheetFault.{SheetFault}
-use Rattle.outline_data.specs.declared.fault.SheetFault.TheVariants.{BadByte, Syntax, FormNotBuilt, BadPattern, PatternMatchesEmpty, Redeclared, UnknownSymbol, NoRules, PlaceOutOfRange, PlaceTwice, NotAToken, Limit, NoMemory}
+use Rattle.outline_data.specs.declared.fault.SheetFault.TheVariants.{BadByte, Syntax, BadPattern, PatternMatchesEmpty, Redeclared, UnknownSymbol, NoRules, PlaceOutOfRange, PlaceTwice, NotAToken, Limit, NoMemory}
 use Rattle.outline_data.specs.Parts.{OutlineParts}
-use Rattle.outline_theory.specs.Outlines.{IsOutlineOf, IsPlain}
-use Rattle.outline_theory.specs.Numbering.{token_literals}
-use Rattle.outline_theory.specs.Reading.{HasOutline, IsFaultless, IsFirstFault}
+use Rattle.outline_theory.specs.Words.{pattern_in, pattern_words}
+use Rattle.outline_theory.specs.LineFaults.{no_spelling, empty_pattern}
+use Rattle.outline_theory.specs.Outlines.{IsOutlineOf}
+use Rattle.outline_theory.specs.Limits.{positions_in}
+use Rattle.outline_theory.specs.Numbering.{AreDecls, IsSheetOf, unnamed_literals}
+use Rattle.outline_theory.specs.Reading.{HasOutline, IsFaultless, Reads, IsFirstFault}
 use Rattle.outline_reader.specs.Faults.{IsOutlineFault}
-use Rattle.outline_numbers.specs.Numbered.{IsLimitFault}
-use Rattle.sheet_laws.proofs.SizeLemmas.{literals_within}
-use Rattle.sheet_laws.proofs.SheetLemmas.{sheet_some}
+use Rattle.outline_numbers.specs.Numbered.{sheet_with, KeepsLimits, IsLimitFault}
+use Rattle.outline_numbers.proofs.MemberLemmas.{all_from, contains_flat}
+use Rattle.sheet_laws.proofs.SizeLemmas.{declared_within}
+use Rattle.sheet_laws.proofs.SheetLemmas.{sheet_once}
+use Rattle.sheet_reader.specs.RuleTexts.{IsPatternText, HasPatternText}
 use Rattle.sheet_reader.specs.Faults.{IsReadFault, IsOutlineRefused}
 
 -- no element, or some
@@ -23,13 +33,12 @@ pub filled_list : {X : Type 0} (xs : List X) (n : ℕ) → n ≡ length xs → f
 filled_list [] n size e none = let some : n ≢ 0 = grind (arith, nat_tests) in some size
 filled_list (x ∷ xs) n size e none = let one : length (x ∷ xs) ≡ 0 = ap length none in absurd (omega arith)
 
-pub has_outline : (bytes : List ℕ) (o : OutlineParts) → length bytes ≤ 262144 → IsOutlineOf bytes o → IsPlain o → HasOutline bytes o
-has_outline bytes o size of plain = record { size = size; of = of; plain = plain }
+pub has_outline : (bytes : List ℕ) (o : OutlineParts) → length bytes ≤ 262144 → IsOutlineOf bytes o → HasOutline bytes o
+has_outline bytes o size of = record { size = size; of = of }
 
 pub refused_reading : (bytes : List ℕ) (fault : SheetFault) → length bytes ≤ 262144 → IsOutlineFault bytes fault → IsReadFault bytes fault
 refused_reading bytes (BadByte line) size h = inr (IsFirstFault.bad_byte size h)
 refused_reading bytes (Syntax line) size h = inr (IsFirstFault.syntax size h)
-refused_reading bytes FormNotBuilt size h = inr (IsFirstFault.form_not_built size h)
 refused_reading bytes (BadPattern line) size h = absurd h
 refused_reading bytes (PatternMatchesEmpty line) size h = absurd h
 refused_reading bytes (Redeclared line) size h = absurd h
@@ -46,23 +55,60 @@ refused_outline bytes o NoMemory has IsOutlineRefused.no_memory = inl refl
 refused_outline bytes o NoRules has (IsOutlineRefused.no_rules none) = inr (IsFirstFault.no_rules has none)
 refused_outline bytes o fault has (IsOutlineRefused.on_line some first) = inr (IsFirstFault.on_line has some first)
 
-pub refused_limit : (bytes : List ℕ) (o : OutlineParts) (fault : SheetFault) → HasOutline bytes o → IsFaultless o → IsLimitFault o fault → IsReadFault bytes fault
-refused_limit bytes o (BadByte line) has faultless h = absurd h
-refused_limit bytes o (Syntax line) has faultless h = absurd h
-refused_limit bytes o FormNotBuilt has faultless h = absurd h
-refused_limit bytes o (BadPattern line) has faultless h = absurd h
-refused_limit bytes o (PatternMatchesEmpty line) has faultless h = absurd h
-refused_limit bytes o (Redeclared line) has faultless h = absurd h
-refused_limit bytes o (UnknownSymbol line) has faultless h = absurd h
-refused_limit bytes o NoRules has faultless h = absurd h
-refused_limit bytes o (PlaceOutOfRange line) has faultless h = absurd h
-refused_limit bytes o (PlaceTwice line) has faultless h = absurd h
-refused_limit bytes o (NotAToken line) has faultless h = absurd h
-refused_limit bytes o (Limit kind count) has faultless h =
-    let (sheet, is) = sheet_some o has.plain in
-    let passed = h sheet is in
-    inr (subst (IsFirstFault bytes) (sym passed.is) (IsFirstFault.limit has faultless is passed.passed))
-refused_limit bytes o NoMemory has faultless h = inl refl
+-- the texts of patterns in a faultless outline
+spelled_text : (o : OutlineParts) → IsFaultless o → (word : Word) → Contains (pattern_words o) word → IsPatternText word.bytes
+spelled_text o faultless word member = record {
+  spelled = λ none. faultless.none _ (no_spelling member none);
+  filled = λ pattern spelled empties. faultless.none _ (empty_pattern member spelled empties);
+}
 
-pub small_literals : (bytes : List ℕ) (o : OutlineParts) → length bytes ≤ 262144 → IsOutlineOf bytes o → sum_by length (token_literals o) < 2 ^ 64
-small_literals bytes o size of = let within : sum_by length (token_literals o) ≤ length bytes = literals_within bytes o of in omega arith
+pattern_text : (o : OutlineParts) → IsFaultless o → (d : Declaration) → Contains o.declarations d → HasPatternText d
+pattern_text o faultless (Literal name literal) member = tt
+pattern_text o faultless (Matched name word) member = spelled_text o faultless word (contains_flat pattern_in o.declarations (Matched name word) word member (0, omega arith, refl))
+pattern_text o faultless (Skip word) member = spelled_text o faultless word (contains_flat pattern_in o.declarations (Skip word) word member (0, omega arith, refl))
+pattern_text o faultless (Start line name) member = tt
+
+pub pattern_texts : (o : OutlineParts) (declarations : List Declaration) → IsFaultless o → declarations ≡ o.declarations → All HasPatternText declarations
+pattern_texts o declarations faultless same = subst (All HasPatternText) (sym same) (all_from HasPatternText o.declarations (pattern_text o faultless))
+
+pub are_kept : (o : OutlineParts) (declarations : List Declaration) (decls seen : List Decl) → declarations ≡ o.declarations → seen ≡ decls → AreDecls declarations decls → AreDecls o.declarations seen
+are_kept o declarations decls seen same again are =
+    subst (λ ds. AreDecls ds seen) same (subst (AreDecls declarations) (sym again) are)
+
+-- the sheet of an outline
+sheet_says : (o : OutlineParts) (decls : List Decl) → AreDecls o.declarations decls → IsSheetOf o (sheet_with o decls)
+sheet_says o decls are = record {
+  decls = are;
+  literals = refl;
+  names = refl;
+  tokens = refl;
+  count = refl;
+  rules = refl;
+  start = refl;
+  templates = refl;
+  declares = refl;
+}
+
+pub refused_limit : (bytes : List ℕ) (o : OutlineParts) (decls : List Decl) (fault : SheetFault) → HasOutline bytes o → IsFaultless o → AreDecls o.declarations decls → IsLimitFault (sheet_with o decls) fault → IsReadFault bytes fault
+refused_limit bytes o decls (BadByte line) has faultless are h = absurd h
+refused_limit bytes o decls (Syntax line) has faultless are h = absurd h
+refused_limit bytes o decls (BadPattern line) has faultless are h = absurd h
+refused_limit bytes o decls (PatternMatchesEmpty line) has faultless are h = absurd h
+refused_limit bytes o decls (Redeclared line) has faultless are h = absurd h
+refused_limit bytes o decls (UnknownSymbol line) has faultless are h = absurd h
+refused_limit bytes o decls NoRules has faultless are h = absurd h
+refused_limit bytes o decls (PlaceOutOfRange line) has faultless are h = absurd h
+refused_limit bytes o decls (PlaceTwice line) has faultless are h = absurd h
+refused_limit bytes o decls (NotAToken line) has faultless are h = absurd h
+refused_limit bytes o decls (Limit kind count) has faultless are h =
+    inr (subst (IsFirstFault bytes) (sym h.is) (IsFirstFault.limit has faultless (sheet_says o decls are) h.passed))
+refused_limit bytes o decls NoMemory has faultless are h = inl refl
+
+pub read_within : (bytes : List ℕ) (o : OutlineParts) (decls : List Decl) (sheet : Sheet) → HasOutline bytes o → IsFaultless o → AreDecls o.declarations decls → KeepsLimits (sheet_with o decls) → IsSheetOf o sheet → Reads bytes sheet
+read_within bytes o decls sheet has faultless are keeps says =
+    let same : sheet_with o decls ≡ sheet = sheet_once o (sheet_with o decls) sheet (sheet_says o decls are) says in
+    record { outline = o; has = has; faultless = faultless; says = says; within = subst KeepsLimits same keeps }
+
+pub few_positions : (bytes : List ℕ) (o : OutlineParts) (decls : List Decl) → length bytes ≤ 262144 → IsOutlineOf bytes o → AreDecls o.declarations decls → sum_by positions_in decls + sum_by length (unnamed_literals o) < 2 ^ 64
+few_positions bytes o decls size of are =
+    let within : sum_by positions_in decls + sum_by length (unnamed_literals o) ≤ length bytes = declared_within bytes o decls of are in omega (arith, within, size)

@@ -5,13 +5,11 @@ use Rattle.std.proofs.lemmas.List.{take_more, take_all, length-map}
 use Rattle.std.proofs.lemmas.Option.{slice_get_within, slice_get-get_or}
 use Rattle.sheet_data.specs.Sheet.{Sheet}
 use Rattle.sheet_theory.specs.Names.{quote, escaped, declared_names, token_names}
-use Rattle.sheet_reader.specs.WellFormed.{name_of, bytes_of, IsWellFormed}
-use Rattle.sheet_reader.proofs.RankLemmas.{all_names_declared}
+use Rattle.sheet_reader.specs.WellFormed.{IsWellFormed}
 
 -- there are few tokens
 pub few_tokens : (sheet : Sheet) → IsWellFormed sheet → sheet.grammar.tokens ≤ 250
-few_tokens sheet well =
-    omega (arith, well.tokens, well.count, ap length (all_names_declared sheet.decls well.decls), length-map sheet.decls name_of, length-map sheet.decls bytes_of, length-append (map bytes_of sheet.decls) sheet.literals)
+few_tokens sheet well = omega (arith, well.tokens, well.count)
 
 -- each token has a printed name, and so have the end mark and the bad byte
 pub length-token_names : (sheet : Sheet) → IsWellFormed sheet → length (token_names sheet) ≡ sheet.grammar.tokens + 2

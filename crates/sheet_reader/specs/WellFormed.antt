@@ -1,38 +1,25 @@
--- What every sheet keeps, whatever bytes it was read from. Patterns are not read yet: each declaration is a literal.
-use Rattle.std.specs.Prelude.{◌≡◌, ℕ, ◌+◌, ◌≤◌, List, [], ◌++◌, length, map, sum_by, All}
+-- What every sheet keeps, whatever bytes it was read from.
+use Rattle.std.specs.Prelude.{◌≡◌, ℕ, ◌+◌, ◌≤◌, List, [], ◌∷◌, length, sum_by, All}
 use Rattle.sheet_data.specs.Sheet.{Sheet}
 use Rattle.sheet_data.specs.declared.parts.Decl.{Decl}
 use Rattle.sheet_data.specs.declared.parts.Decl.TheVariants.{Literal, Matched, Skip}
 use Rattle.sheet_theory.specs.Names.{declared_names}
-pub use Rattle.outline_numbers.specs.Numbered.{IsLiteralText}
+use Rattle.outline_theory.specs.Limits.{skips_in, positions_in}
+pub use Rattle.outline_numbers.specs.Numbered.{IsLiteralText, IsOrdinaryDecl}
 
-abbrev pub IsLiteralDecl : Decl → Type 0
-IsLiteralDecl (Literal name bytes) = Unit {0}
-IsLiteralDecl (Matched name pattern) = ⊥
-IsLiteralDecl (Skip pattern) = ⊥
-
--- the name that a declaration gives to its token
-abbrev pub name_of : Decl → List ℕ
-name_of (Literal name bytes) = name
-name_of (Matched name pattern) = name
-name_of (Skip pattern) = []
-
--- the bytes of the literal that a declaration names
-abbrev pub bytes_of : Decl → List ℕ
-bytes_of (Literal name bytes) = bytes
-bytes_of (Matched name pattern) = []
-bytes_of (Skip pattern) = []
-
--- the bytes of all literals, declared or not, in the order of their tokens
-abbrev pub literals_by_token : Sheet → List (List ℕ)
-literals_by_token sheet = map bytes_of sheet.decls ++ sheet.literals
+-- the name that a declaration gives to its token, where it declares one
+abbrev pub name_in : Decl → List (List ℕ)
+name_in (Literal name bytes) = name ∷ []
+name_in (Matched name pattern) = name ∷ []
+name_in (Skip pattern) = []
 
 pub record IsWellFormed (sheet : Sheet) : Type 0 where
   pub tokens : sheet.grammar.tokens ≡ length (declared_names sheet.decls) + length sheet.literals
-  pub decls : All IsLiteralDecl sheet.decls
-  pub literals : All IsLiteralText (literals_by_token sheet)
-  pub count : length (literals_by_token sheet) ≤ 250
-  pub bytes : sum_by length (literals_by_token sheet) ≤ 5000
+  pub count : length (declared_names sheet.decls) + length sheet.literals ≤ 250
+  pub skips : sum_by skips_in sheet.decls ≤ 50
+  pub positions : sum_by positions_in sheet.decls + sum_by length sheet.literals ≤ 5000
+  pub decls : All IsOrdinaryDecl sheet.decls
+  pub literals : All IsLiteralText sheet.literals
   pub names : sheet.grammar.names ≡ length sheet.names
   pub templates : length sheet.templates ≡ length sheet.grammar.rules
   pub declares : length sheet.declares ≡ length sheet.grammar.rules

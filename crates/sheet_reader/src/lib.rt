@@ -1,7 +1,7 @@
-//! Reads a grammar sheet, says what it says to a scan and to a reader, and prints it in its normal layout. Patterns are
-//! not read yet.
+//! Reads a grammar sheet, says what it says to a scan and to a reader, and prints it in its normal layout.
 #![tactic(auto)]
 
+mod copies;
 mod parts;
 mod print;
 mod read;

@@ -2,44 +2,62 @@
 ghost use Rattle.std.specs.Prelude.{◌≡◌, ◌≤◌, ◌++◌, [], ◌∷◌, length, map, All, IfOk, OnOk};
 ghost use Rattle.std.specs.List.{range_with_len, flat_map};
 ghost use Rattle.std.specs.Option.{option_map};
+ghost use Rattle.pattern_data.specs.Spellings.{IsSpelling};
 ghost use Rattle.sheet_data.specs.declared.parts.Part.TheVariants.{Fold};
-ghost use Rattle.outline_data.specs.AlternativeParts.{AlternativeParts};
 ghost use Rattle.outline_data.specs.GroupParts.{GroupParts};
-ghost use Rattle.outline_theory.specs.Outlines.{IsPlainDeclaration};
 ghost use Rattle.outline_theory.specs.Words.{places};
 ghost use Rattle.outline_theory.specs.Numbering.{AreDecls, part_of, template_by, template_of, declares_of};
-ghost use Rattle.sheet_reader.specs.RuleTexts.{IsKept, AreShort, templates_in, declares_in};
+ghost use Rattle.sheet_reader.specs.RuleTexts.{IsKept, IsPatternText, HasPatternText, AreShort, templates_in, declares_in};
 
+use crate::copies::copy_bytes;
 use lr_base::NoMemory;
 use outline_data::{Alternative, Declaration, PlaceUse, RuleGroup, TemplatePart, Word};
+use pattern_data::{Pattern, PatternFault};
 use sheet_data::{Decl, Part};
 use std::alloc::Global;
 
+/// The pattern that a text spells.
+fn pattern_of(alloc: Global, text: &Word) -> Result<Pattern, NoMemory>
+    requires { IsPatternText text.now.bytes }
+    ensures { IfOk result (λ pattern. IsSpelling text.now.bytes pattern) }
+{
+    match Pattern::read(alloc, text.bytes.as_slice()) {
+        Ok(pattern) => Ok(pattern),
+        Err(PatternFault::NoMemory) => Err(NoMemory),
+        Err(PatternFault::Syntax) => unreachable!(),
+        Err(PatternFault::MatchesEmpty) => unreachable!(),
+    }
+}
+
 /// What a sheet keeps of a declaration: nothing of one of the start.
-fn decl_of(declaration: Declaration) -> Option<Decl>
-    requires { IsPlainDeclaration declaration }
-    ensures { IsKept declaration result }
+fn decl_of(alloc: Global, declaration: &Declaration) -> Result<Option<Decl>, NoMemory>
+    requires { HasPatternText declaration.now }
+    ensures { IfOk result (IsKept declaration.now) }
 {
     match declaration {
-        Declaration::Literal { name, literal } => {
-            let Word { bytes: name, .. } = name;
-            let Word { bytes, .. } = literal;
-            Some(Decl::Literal { name, bytes })
-        }
-        Declaration::Start { .. } => None,
-        Declaration::Matched { .. } | Declaration::Skip { .. } => unreachable!(),
+        Declaration::Literal { name, literal } => Ok(Some(Decl::Literal {
+            name: copy_bytes(alloc, name)?,
+            bytes: copy_bytes(alloc, literal)?,
+        })),
+        Declaration::Matched { name, pattern } => Ok(Some(Decl::Matched {
+            name: copy_bytes(alloc, name)?,
+            pattern: pattern_of(alloc, pattern)?,
+        })),
+        Declaration::Skip { pattern } => Ok(Some(Decl::Skip {
+            pattern: pattern_of(alloc, pattern)?,
+        })),
+        Declaration::Start { .. } => Ok(None),
     }
 }
 
 /// The declarations that a sheet keeps.
-#[tactic(auto, using(crate::proofs::PartLemmas::decls_append))]
-pub fn decls_of(alloc: Global, declarations: Vec<Declaration>) -> Result<Vec<Decl>, NoMemory>
-    requires { All IsPlainDeclaration declarations.items }
-    ensures { IfOk result (λ decls. AreDecls declarations.items decls.items) }
+pub fn decls_of(alloc: Global, declarations: &[Declaration]) -> Result<Vec<Decl>, NoMemory>
+    requires { All HasPatternText declarations.now }
+    ensures { IfOk result (λ decls. AreDecls declarations.now decls.items) }
 {
     let mut decls = Vec::new(alloc);
     for declaration in declarations {
-        if let Some(decl) = decl_of(declaration) {
+        if let Some(decl) = decl_of(alloc, declaration)? {
             decls.push(decl)?;
         }
     }

@@ -1,15 +1,15 @@
 //! The normal layout of a sheet.
-ghost use Rattle.std.specs.Prelude.{◌≡◌, ℕ, ◌<◌, ◌∷◌, ◌++◌, length, map, List, Some, unwrap_or, slice_get, [], decimal, All, IfOk, OnOk};
+ghost use Rattle.std.specs.Prelude.{◌≡◌, ℕ, ◌<◌, ◌∷◌, ◌++◌, length, map, List, Some, unwrap_or, slice_get, [], decimal, IfOk, OnOk};
 ghost use Rattle.std.specs.List.{flat_map};
 ghost use Rattle.sheet_theory.specs.Names.{token_names};
-ghost use Rattle.outline_theory.specs.Layout.{line_text, symbol_text, part_text, mark_words, rule_lines, decl_words, layout};
-ghost use Rattle.sheet_reader.specs.WellFormed.{IsLiteralDecl};
+ghost use Rattle.outline_theory.specs.Layout.{line_text, symbol_text, part_text, mark_words, rule_lines, pattern_text, decl_words, layout};
 ghost use Rattle.sheet_reader.specs.Printing.{spaced, ended, head_text, tail_text, rule_text};
 
 use crate::sheet::Sheet;
 use crate::token_text::push_escaped;
 use itoa::Buffer;
 use lr_base::{NoMemory, Rule, RuleId, Sym};
+use pattern_data::Pattern;
 use sheet_data::{Bytes, Decl, Part};
 use std::alloc::Global;
 
@@ -52,9 +52,20 @@ fn symbol_word<'a>(tokens: &'a [Bytes], sheet: &'a Sheet, symbol: Sym) -> &'a [u
     }
 }
 
+/// Adds a pattern between slashes, which ends a line.
+fn push_pattern(text: &mut Vec<u8>, alloc: Global, pattern: &Pattern) -> Result<(), NoMemory>
+    ensures { OnOk result (text.new.items ≡ text.old.items ++ ended (pattern_text pattern.now)) }
+{
+    let spelling = pattern.print(alloc)?;
+    text.push(b'/')?;
+    text.extend_from_slice(&spelling)?;
+    text.push(b'/')?;
+    text.push(b'\n')?;
+    Ok(())
+}
+
 /// Adds a declaration's line.
-fn push_decl(text: &mut Vec<u8>, decl: &Decl) -> Result<(), NoMemory>
-    requires { IsLiteralDecl decl.now }
+fn push_decl(text: &mut Vec<u8>, alloc: Global, decl: &Decl) -> Result<(), NoMemory>
     ensures { OnOk result (text.new.items ≡ text.old.items ++ line_text (decl_words decl.now)) }
 {
     match decl {
@@ -65,17 +76,24 @@ fn push_decl(text: &mut Vec<u8>, decl: &Decl) -> Result<(), NoMemory>
             text.push(b'\n')?;
             Ok(())
         }
-        Decl::Matched { .. } | Decl::Skip { .. } => unreachable!(),
+        Decl::Matched { name, pattern } => {
+            push_word(text, b"%token")?;
+            push_word(text, name.as_slice())?;
+            push_pattern(text, alloc, pattern)
+        }
+        Decl::Skip { pattern } => {
+            push_word(text, b"%skip")?;
+            push_pattern(text, alloc, pattern)
+        }
     }
 }
 
 /// Adds the declarations' lines.
-fn push_decls(text: &mut Vec<u8>, decls: &[Decl]) -> Result<(), NoMemory>
-    requires { All IsLiteralDecl decls.now }
+fn push_decls(text: &mut Vec<u8>, alloc: Global, decls: &[Decl]) -> Result<(), NoMemory>
     ensures { OnOk result (text.new.items ≡ text.old.items ++ flat_map line_text (map decl_words decls.now)) }
 {
     for decl in decls {
-        push_decl(text, decl)?;
+        push_decl(text, alloc, decl)?;
     }
     Ok(())
 }
@@ -226,7 +244,7 @@ pub fn print_sheet(alloc: Global, sheet: &Sheet) -> Result<Vec<u8>, NoMemory>
 {
     let tokens = sheet.token_texts()?;
     let mut text = Vec::new(alloc);
-    push_decls(&mut text, sheet.decls())?;
+    push_decls(&mut text, alloc, sheet.decls())?;
     push_word(&mut text, b"%start")?;
     push_last(
         &mut text,

@@ -3,6 +3,7 @@ ghost use Rattle.std.specs.Prelude.{IfOk, IfErr, MatchResult};
 ghost use Rattle.outline_theory.specs.Reading.{IsFaultless, Reads};
 ghost use Rattle.sheet_reader.specs.Faults.{IsReadFault, IsOutlineRefused};
 
+use crate::parts::decls_of;
 use crate::sheet::Sheet;
 use lr_base::{NoMemory, SHEET_BYTES};
 use outline_checks::first_line_fault;
@@ -27,8 +28,7 @@ fn check_outline(alloc: Global, outline: &Outline) -> Result<(), SheetFault>
 
 /// The sheet that these bytes say, or their first fault: the limit on the bytes comes first; then the first lexical or
 /// syntactic fault in the order of the bytes; then the want of rules; then, of the faults on lines, the least line's
-/// with the least number; and then the limits in their order. Patterns are not read yet: where one stands and a sheet
-/// goes on with it, the answer is `FormNotBuilt`.
+/// with the least number; and then the limits in their order.
 pub fn read_sheet(alloc: Global, bytes: &[u8]) -> Result<Sheet, SheetFault>
     ensures read { IfOk result (λ sheet. Reads bytes.now sheet) }
     ensures fault { IfErr result (λ fault. IsReadFault bytes.now fault) }
@@ -44,10 +44,11 @@ pub fn read_sheet(alloc: Global, bytes: &[u8]) -> Result<Sheet, SheetFault>
         Ok(()) => {}
         Err(fault) => return Err(fault),
     }
-    let numbered = match number_outline(alloc, &outline) {
+    let decls = decls_of(alloc, &outline.declarations)?;
+    let numbered = match number_outline(alloc, &outline, &decls) {
         Ok(numbered) => numbered,
         Err(fault) => return Err(fault),
     };
-    let sheet = Sheet::of_outline(alloc, outline, numbered)?;
+    let sheet = Sheet::of_outline(alloc, outline, decls, numbered)?;
     Ok(sheet)
 }

@@ -1,8 +1,11 @@
 //! The order in which a sheet's patterns are scanned.
-ghost use Rattle.std.specs.Prelude.{◌≡◌, ℕ, ◌+◌, ◌<◌, ◌≤◌, List, [], ◌∷◌, ◌++◌, length, map, All, IfOk, OnOk};
-ghost use Rattle.sheet_reader.specs.WellFormed.{IsLiteralDecl, IsLiteralText, bytes_of};
-ghost use Rattle.sheet_reader.specs.Ranking.{RanksLiterals};
+ghost use Rattle.std.specs.Prelude.{◌≡◌, ◌+◌, ◌≤◌, List, [], ◌∷◌, ◌++◌, length, All, OnOk};
+ghost use Rattle.sheet_theory.specs.Names.{declared_names};
+ghost use Rattle.sheet_theory.specs.ScanOrder.{Ranked, ranked_literal, declared_literals, unnamed_literals, declared_patterns};
+ghost use Rattle.sheet_reader.specs.WellFormed.{IsLiteralText, IsOrdinaryDecl};
+ghost use Rattle.sheet_reader.specs.Ranking.{Ranks};
 
+use crate::copies::copy_pattern;
 use lr_base::{NoMemory, TokenId};
 use pattern_data::{Meaning, Pattern, PatternFault};
 use sheet_data::{Bytes, Decl};
@@ -16,8 +19,8 @@ pub struct ScanOrder {
 }
 
 impl ScanOrder {
-    fn new(alloc: Global) -> ScanOrder
-        ensures { RanksLiterals result [] }
+    pub fn new(alloc: Global) -> ScanOrder
+        ensures { Ranks result [] }
     {
         ScanOrder {
             patterns: Vec::new(alloc),
@@ -25,63 +28,119 @@ impl ScanOrder {
         }
     }
 
-    /// Ranks one more literal as the next token. After an error the order isn't used.
-    fn push_literal(&mut self, alloc: Global, bytes: &[u8]) -> Result<(), NoMemory>
-        requires literal { IsLiteralText bytes.now }
-        requires few { length self.old.means.items < 250 }
-        ensures size { OnOk result (length self.new.means.items ≡ length self.old.means.items + 1) }
-        ensures ranks { OnOk result ((literals : List (List ℕ)) → RanksLiterals self.old literals → RanksLiterals self.new (literals ++ bytes.now ∷ [])) }
+    /// Ranks a pattern behind the others. After an error the order isn't used.
+    fn push(&mut self, pattern: Pattern, meaning: Meaning) -> Result<(), NoMemory>
+        ensures { OnOk result ((ranked : List Ranked) → Ranks self.old ranked → Ranks self.new (ranked ++ (pattern, meaning) ∷ [])) }
     {
-        let token = TokenId(self.means.len() as u32);
+        self.patterns.push(pattern)?;
+        self.means.push(meaning)?;
+        Ok(())
+    }
+
+    /// Ranks the literal of a token behind the others. After an error the order isn't used.
+    fn push_literal(&mut self, alloc: Global, token: u32, bytes: &[u8]) -> Result<(), NoMemory>
+        requires { IsLiteralText bytes.now }
+        ensures { OnOk result ((ranked : List Ranked) → Ranks self.old ranked → Ranks self.new (ranked ++ ranked_literal token bytes.now ∷ [])) }
+    {
         let pattern = match Pattern::literal(alloc, bytes) {
             Ok(pattern) => pattern,
             Err(PatternFault::NoMemory) => return Err(NoMemory),
             Err(PatternFault::Syntax | PatternFault::MatchesEmpty) => unreachable!(),
         };
-        self.patterns.push(pattern)?;
-        self.means.push(Meaning::Token(token))?;
-        Ok(())
+        self.push(pattern, Meaning::Token(TokenId(token)))
     }
 }
 
-/// Ranks the declared literals.
-pub fn rank_declared(alloc: Global, decls: &[Decl]) -> Result<ScanOrder, NoMemory>
-    requires literals { All IsLiteralDecl decls.now }
-    requires each { All IsLiteralText (map bytes_of decls.now) }
-    requires few { length decls.now ≤ 250 }
-    ensures { IfOk result (λ order. RanksLiterals order (map bytes_of decls.now)) }
-{
-    let mut order = ScanOrder::new(alloc);
-    for decl in decls {
-        order.push_literal(alloc, literal_bytes(decl))?;
-    }
-    Ok(order)
-}
-
-/// The bytes of the literal that a declaration names.
-fn literal_bytes(decl: &Decl) -> &[u8]
-    requires { IsLiteralDecl decl.now }
-    ensures { result.now ≡ bytes_of decl.now }
+/// The number of the next declared token, behind a declaration where the next one has this number.
+fn next_token(token: u32, decl: &Decl) -> u32
+    requires { token + length (declared_names (decl.now ∷ [])) ≤ 250 }
+    ensures { result ≡ token + length (declared_names (decl.now ∷ [])) }
 {
     match decl {
-        Decl::Literal { bytes, .. } => bytes.as_slice(),
-        Decl::Matched { .. } | Decl::Skip { .. } => unreachable!(),
+        Decl::Literal { .. } | Decl::Matched { .. } => token + 1,
+        Decl::Skip { .. } => token,
     }
 }
 
-/// Ranks more literals behind those that are ranked.
-pub fn rank_unnamed(
+/// Ranks the literal of a declaration, which declares the token of this number, behind the others.
+fn rank_literal(
+    order: &mut ScanOrder,
     alloc: Global,
-    ranked: ScanOrder,
-    literals: &[Bytes],
-) -> Result<ScanOrder, NoMemory>
-    requires each { All IsLiteralText literals.now }
-    requires few { length ranked.means.items + length literals.now ≤ 250 }
-    ensures { IfOk result (λ order. (before : List (List ℕ)) → RanksLiterals ranked before → RanksLiterals order (before ++ literals.now)) }
+    token: u32,
+    decl: &Decl,
+) -> Result<(), NoMemory>
+    requires { IsOrdinaryDecl decl.now }
+    ensures { OnOk result ((ranked : List Ranked) → Ranks order.old ranked → Ranks order.new (ranked ++ declared_literals token (decl.now ∷ []))) }
 {
-    let mut order = ranked;
-    for bytes in literals {
-        order.push_literal(alloc, bytes.as_slice())?;
+    match decl {
+        Decl::Literal { bytes, .. } => order.push_literal(alloc, token, bytes.as_slice()),
+        Decl::Matched { .. } | Decl::Skip { .. } => Ok(()),
     }
-    Ok(order)
+}
+
+/// Ranks the declared literals behind the others.
+pub fn rank_literals(order: &mut ScanOrder, alloc: Global, decls: &[Decl]) -> Result<(), NoMemory>
+    requires each { All IsOrdinaryDecl decls.now }
+    requires few { length (declared_names decls.now) ≤ 250 }
+    ensures { OnOk result ((ranked : List Ranked) → Ranks order.old ranked → Ranks order.new (ranked ++ declared_literals 0 decls.now)) }
+{
+    let mut token = 0;
+    for decl in decls {
+        rank_literal(order, alloc, token, decl)?;
+        token = next_token(token, decl);
+    }
+    Ok(())
+}
+
+/// Ranks literals without a name behind the others; the first of them is the token of this number.
+pub fn rank_unnamed(
+    order: &mut ScanOrder,
+    alloc: Global,
+    first: u32,
+    literals: &[Bytes],
+) -> Result<(), NoMemory>
+    requires each { All IsLiteralText literals.now }
+    requires few { first + length literals.now ≤ 250 }
+    ensures { OnOk result ((ranked : List Ranked) → Ranks order.old ranked → Ranks order.new (ranked ++ unnamed_literals first literals.now)) }
+{
+    let mut token = first;
+    for bytes in literals {
+        order.push_literal(alloc, token, bytes.as_slice())?;
+        token += 1;
+    }
+    Ok(())
+}
+
+/// Ranks the pattern of a declaration behind the others; the next declared token has this number.
+fn rank_pattern(
+    order: &mut ScanOrder,
+    alloc: Global,
+    token: u32,
+    decl: &Decl,
+) -> Result<(), NoMemory>
+    ensures { OnOk result ((ranked : List Ranked) → Ranks order.old ranked → Ranks order.new (ranked ++ declared_patterns token (decl.now ∷ []))) }
+{
+    match decl {
+        Decl::Literal { .. } => Ok(()),
+        Decl::Matched { pattern, .. } => {
+            order.push(
+                copy_pattern(alloc, pattern)?,
+                Meaning::Token(TokenId(token)),
+            )
+        }
+        Decl::Skip { pattern } => order.push(copy_pattern(alloc, pattern)?, Meaning::Skip),
+    }
+}
+
+/// Ranks the declared patterns, skips among them, behind the others.
+pub fn rank_patterns(order: &mut ScanOrder, alloc: Global, decls: &[Decl]) -> Result<(), NoMemory>
+    requires { length (declared_names decls.now) ≤ 250 }
+    ensures { OnOk result ((ranked : List Ranked) → Ranks order.old ranked → Ranks order.new (ranked ++ declared_patterns 0 decls.now)) }
+{
+    let mut token = 0;
+    for decl in decls {
+        rank_pattern(order, alloc, token, decl)?;
+        token = next_token(token, decl);
+    }
+    Ok(())
 }

@@ -1,7 +1,7 @@
-ghost use Rattle.std.specs.Prelude.{◌≡◌, ◌+◌, ◌<◌, ◌≤◌, slice_get, Some, length, map, All, IfOk};
+ghost use Rattle.std.specs.Prelude.{◌≡◌, ◌+◌, ◌<◌, ◌≤◌, slice_get, Some, length, map, IfOk};
 
-use crate::parts::{RuleTexts, decls_of, rule_texts};
-use crate::scan_order::{ScanOrder, rank_declared, rank_unnamed};
+use crate::parts::{RuleTexts, rule_texts};
+use crate::scan_order::{ScanOrder, rank_literals, rank_patterns, rank_unnamed};
 use crate::token_text::{declared_name, quoted};
 use lr_base::{Grammar, NameId, NoMemory, RuleId, TokenId};
 use outline_data::Outline;
@@ -39,32 +39,25 @@ impl Model for Sheet {
 }
 
 impl Sheet {
-    ghost use Rattle.sheet_theory.specs.Names.{token_names};
+    ghost use Rattle.sheet_theory.specs.Names.{declared_names, token_names};
     ghost use Rattle.sheet_theory.specs.ScanOrder.{Ranked, scan_order};
-    ghost use Rattle.outline_theory.specs.Outlines.{IsPlain};
-    ghost use Rattle.outline_theory.specs.Reading.{IsFaultless};
-    ghost use Rattle.outline_theory.specs.Numbering.{IsSheetOf};
+    ghost use Rattle.outline_theory.specs.Numbering.{AreDecls, IsSheetOf};
     ghost use Rattle.outline_numbers.specs.Numbered.{IsNumbered, IsOrdinary};
-    ghost use Rattle.sheet_reader.specs.WellFormed.{IsLiteralDecl};
     ghost use Rattle.sheet_reader.specs.Ranking.{IsScannable, token_count};
 
-    /// The sheet of an outline with its numbers.
+    /// The sheet of an outline with its declarations and its numbers.
     pub(crate) fn of_outline(
         alloc: Global,
         outline: Outline,
+        decls: Vec<Decl>,
         numbered: Numbered,
     ) -> Result<Sheet, NoMemory>
-        requires faultless { IsFaultless outline }
-        requires plain { IsPlain outline }
+        requires decls { AreDecls outline.declarations decls.items }
         requires numbers { IsNumbered outline numbered }
-        requires ordinary { IsOrdinary outline }
+        requires ordinary { IsOrdinary outline decls.items }
         ensures { IfOk result (λ sheet. IsSheetOf outline sheet) }
     {
-        let Outline {
-            declarations,
-            groups,
-            ..
-        } = outline;
+        let Outline { groups, .. } = outline;
         let Numbered {
             literals,
             names,
@@ -75,7 +68,7 @@ impl Sheet {
             declares,
         } = rule_texts(alloc, groups)?;
         Ok(Sheet {
-            decls: decls_of(alloc, declarations)?,
+            decls,
             literals,
             names,
             grammar,
@@ -86,10 +79,16 @@ impl Sheet {
 
     /// The declarations, in order.
     pub(crate) fn decls(&self) -> &[Decl]
-        ensures decls { result.now ≡ self.now.decls }
-        ensures literals { All IsLiteralDecl result.now }
+        ensures { result.now ≡ self.now.decls }
     {
         &self.decls
+    }
+
+    /// How many tokens are declared; they are numbered before the literals without a name.
+    fn declared_tokens(&self) -> u32
+        ensures { result ≡ length (declared_names self.now.decls) }
+    {
+        self.grammar.tokens() - self.literals.len() as u32
     }
 
     /// How many rules there are.
@@ -147,9 +146,9 @@ impl Sheet {
     {
         let alloc = *self.decls.allocator();
         let number = a.0 as usize;
-        let declared = self.decls.len();
+        let declared = self.declared_tokens() as usize;
         if number < declared {
-            let name = declared_name(&self.decls[number]);
+            let name = declared_name(&self.decls, number);
             return Ok(Vec::from_slice(alloc, name)?);
         }
         let unnamed = number - declared;
@@ -186,7 +185,10 @@ impl Sheet {
         ensures tokens { IfOk result (λ order. token_count order.means.items ≡ self.now.grammar.tokens) }
     {
         let alloc = *self.decls.allocator();
-        let declared = rank_declared(alloc, self.decls.as_slice())?;
-        rank_unnamed(alloc, declared, self.literals.as_slice())
+        let mut order = ScanOrder::new(alloc);
+        rank_literals(&mut order, alloc, &self.decls)?;
+        rank_unnamed(&mut order, alloc, self.declared_tokens(), &self.literals)?;
+        rank_patterns(&mut order, alloc, &self.decls)?;
+        Ok(order)
     }
 }

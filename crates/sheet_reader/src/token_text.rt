@@ -1,21 +1,38 @@
 //! The printed names of tokens.
-ghost use Rattle.std.specs.Prelude.{◌≡◌, ◌<◌, ◌++◌, IfOk, OnOk};
-ghost use Rattle.sheet_theory.specs.Names.{quote, hex_digit, escaped_byte, escaped};
-ghost use Rattle.sheet_reader.specs.WellFormed.{IsLiteralDecl, name_of};
+ghost use Rattle.std.specs.Prelude.{◌≡◌, ◌<◌, [], ◌∷◌, ◌++◌, length, slice_get, Some, IfOk, OnOk, MatchOption};
+ghost use Rattle.sheet_theory.specs.Names.{quote, hex_digit, escaped_byte, escaped, declared_names};
+ghost use Rattle.sheet_reader.specs.WellFormed.{name_in};
 
 use lr_base::NoMemory;
 use sheet_data::Decl;
 use std::alloc::Global;
 
-/// The name that a declaration gives to its token.
-pub fn declared_name(decl: &Decl) -> &[u8]
-    requires { IsLiteralDecl decl.now }
-    ensures { result.now ≡ name_of decl.now }
+/// The name that a declaration gives to its token, where it declares one.
+fn token_name(decl: &Decl) -> Option<&[u8]>
+    ensures { MatchOption result (name_in decl.now ≡ []) (λ name. name_in decl.now ≡ name.now ∷ []) }
 {
     match decl {
-        Decl::Literal { name, .. } | Decl::Matched { name, .. } => name.as_slice(),
-        Decl::Skip { .. } => unreachable!(),
+        Decl::Literal { name, .. } | Decl::Matched { name, .. } => Some(name.as_slice()),
+        Decl::Skip { .. } => None,
     }
+}
+
+/// The name of the declared token of this number.
+pub fn declared_name(decls: &[Decl], number: usize) -> &[u8]
+    requires { number < length (declared_names decls.now) }
+    ensures { slice_get (declared_names decls.now) number ≡ Some result.now }
+{
+    let mut left = number;
+    for decl in decls {
+        let Some(name) = token_name(decl) else {
+            continue;
+        };
+        if left == 0 {
+            return name;
+        }
+        left -= 1;
+    }
+    unreachable!()
 }
 
 /// The bytes between quotes, with a backslash before each quote and backslash, and other bytes than 0x20 to 0x7E by

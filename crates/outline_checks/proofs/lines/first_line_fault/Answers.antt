@@ -14,4 +14,4 @@ returns c =
       tokens = rw (c.deref.ensures.value ∙ declarations) at c.in_ok-index_tokens.ensures.tokens;
       left_sides = rw (c.deref-2.ensures.value ∙ groups) at c.in_ok-index_left_sides.ensures;
     } in
-    first_found outline names c.new-first.ensures knows (rw (c.deref.ensures.value ∙ declarations) at c.in_ok-index_tokens.ensures.noted) (rw (c.deref-3.ensures.value ∙ declarations) at c.in_ok-note_named_literals.ensures) (rw (c.deref-4.ensures.value ∙ declarations) at c.note_starts.ensures) (rw (c.deref-5.ensures.value ∙ groups) at c.in_ok-note_groups.ensures)
+    first_found outline names c.new-first.ensures knows (rw (c.deref.ensures.value ∙ declarations) at c.in_ok-index_tokens.ensures.noted) (rw (c.deref-3.ensures.value ∙ declarations) at c.in_ok-note_named_literals.ensures) (rw (c.deref-4.ensures.value ∙ declarations) at c.in_ok-note_patterns.ensures) (rw (c.deref-5.ensures.value ∙ declarations) at c.note_starts.ensures) (rw (c.deref-6.ensures.value ∙ groups) at c.in_ok-note_groups.ensures)

@@ -1,12 +1,12 @@
 use Rattle.std.proofs.Common.{◌≡◌, ◌≢◌, ℕ, sym, subst, arith}
 use Rattle.outline_data.specs.declared.fault.SheetFault.{SheetFault}
 use Rattle.outline_data.specs.Parts.{OutlineParts}
-use Rattle.outline_theory.specs.Outlines.{IsOutlineOf, IsPlain}
+use Rattle.outline_theory.specs.Outlines.{IsOutlineOf}
 use Rattle.stage_theory.specs.Stages.Stage.{ended}
 use Rattle.stage_theory.specs.Drafts.{Draft, stage_of}
 use Rattle.outline_reader.specs.Progress.{draft_of, IsFinished, IsUnfinished}
 use Rattle.outline_reader.specs.Faults.{IsOutlineFault}
-use Rattle.stage_theory.proofs.ReadLemmas.{IsReadSoFar, so_far_none, outline_plain}
+use Rattle.stage_theory.proofs.ReadLemmas.{IsReadSoFar, so_far_none}
 use Rattle.outline_reader.proofs.ReadLemmas.{so_far_more, read_on, refused_fault, no_lexeme_fault, end_fault, end_outline, ended_outline, lexeme_is_read, end_is_read, untrue, true_so, ok_so, err_so, err_is}
 use Rattle.outline_reader.proofs.read.read_outline.Goals as goal
 
@@ -44,7 +44,7 @@ loop-alloc-preserved c =
     let read = lexeme_is_read c.args.bytes.now c.loop-alloc.place.at c.in_ok-lexeme.field-0 c.in-Lexeme.lexeme c.in-Lexeme.begins c.in-Lexeme.behind c.in_ok-lexeme.ensures.read c.in-Lexeme.is in
     record {
       stands = read.end;
-      read = so_far_more c.args.bytes.now c.loop-alloc.place.at (draft_of c.loop-alloc.progress) (draft_of c.in_ok-progress-in-Lexeme.progress) c.in-Lexeme.lexeme c.in-Lexeme.begins c.in-Lexeme.behind c.line_of_place.result c.loop-alloc.invariant.read read c.line_of_place.ensures c.in_ok-progress-in-Lexeme.ensures.next c.in_ok-progress-in-Lexeme.ensures.plain;
+      read = so_far_more c.args.bytes.now c.loop-alloc.place.at (draft_of c.loop-alloc.progress) (draft_of c.in_ok-progress-in-Lexeme.progress) c.in-Lexeme.lexeme c.in-Lexeme.begins c.in-Lexeme.behind c.line_of_place.result c.loop-alloc.invariant.read read c.line_of_place.ensures c.in_ok-progress-in-Lexeme.ensures.next;
     }
 
 pub returns-in-End-clause-outline : goal.returns-in-End-clause-outline
@@ -53,12 +53,6 @@ returns-in-End-clause-outline c =
     let Q : OutlineParts → Type 0 = λ o. IsOutlineOf c.args.bytes.now o in
     let read = end_is_read c.args.bytes.now c.loop-alloc.place.at c.in_ok-lexeme.field-0 c.in-End.end c.in_ok-lexeme.ensures.read c.in-End.is in
     ok_so P Q c.finished.result (λ o whole. end_outline c.args.bytes.now c.loop-alloc.place.at (draft_of c.loop-alloc.progress) o c.in-End.end c.loop-alloc.invariant.read whole read) c.finished.ensures.whole
-
-pub returns-in-End-clause-plain : goal.returns-in-End-clause-plain
-returns-in-End-clause-plain c =
-    let P : OutlineParts → Type 0 = λ o. IsFinished (draft_of c.loop-alloc.progress) o in
-    let Q : OutlineParts → Type 0 = λ o. IsPlain o in
-    ok_so P Q c.finished.result (λ o whole. outline_plain c.args.bytes.now c.loop-alloc.place.at (draft_of c.loop-alloc.progress) c.loop-alloc.invariant.read o whole) c.finished.ensures.whole
 
 pub returns-in-End-clause-fault : goal.returns-in-End-clause-fault
 returns-in-End-clause-fault c =
@@ -74,9 +68,3 @@ returns-clause-outline c =
     let Q : OutlineParts → Type 0 = λ o. IsOutlineOf c.args.bytes.now o in
     let is : stage_of (draft_of c.loop-alloc.progress) ≡ ended = true_so c.is_ended.result c.loop-alloc-test.false c.is_ended.ensures in
     ok_so P Q c.finished-2.result (λ o whole. ended_outline c.args.bytes.now c.loop-alloc.place.at (draft_of c.loop-alloc.progress) o c.loop-alloc.invariant.read whole is) c.finished-2.ensures.whole
-
-pub returns-clause-plain : goal.returns-clause-plain
-returns-clause-plain c =
-    let P : OutlineParts → Type 0 = λ o. IsFinished (draft_of c.loop-alloc.progress) o in
-    let Q : OutlineParts → Type 0 = λ o. IsPlain o in
-    ok_so P Q c.finished-2.result (λ o whole. outline_plain c.args.bytes.now c.loop-alloc.place.at (draft_of c.loop-alloc.progress) c.loop-alloc.invariant.read o whole) c.finished-2.ensures.whole

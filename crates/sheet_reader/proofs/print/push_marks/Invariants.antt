@@ -1,6 +1,6 @@
-use Rattle.std.proofs.Common.{◌≡◌, ◌++◌, map, take}
+use Rattle.std.proofs.Common.{◌≡◌, ◌++◌, take}
 use Rattle.std.specs.List.{flat_map}
-use Rattle.outline_theory.specs.Layout.{line_text, symbol_text, part_text, mark_words, rule_lines, decl_words}
+use Rattle.outline_theory.specs.Layout.{mark_words}
 use Rattle.sheet_reader.specs.Printing.{spaced}
 use Rattle.sheet_reader.proofs.print.push_marks.Given as goal
 

@@ -1,4 +1,4 @@
-use Rattle.std.proofs.Common.{◌≡◌, ◌<◌, ◌≤◌, length, sym, ap, subst, ◌∙◌, arith}
+use Rattle.std.proofs.Common.{◌≡◌, length, arith}
 use Rattle.sheet_data.specs.Sheet.{Sheet}
 use Rattle.outline_theory.specs.Layout.{rule_lines}
 use Rattle.sheet_reader.proofs.LayoutLemmas.{line_at, all_lines, count_lines}

@@ -1,9 +1,15 @@
-use Rattle.std.proofs.Common.{◌++◌, take, arith}
-use Rattle.sheet_reader.proofs.RankLemmas.{ranked_more}
+use Rattle.std.proofs.Common.{◌+◌, [], ◌∷◌, take, arith}
+use Rattle.sheet_theory.specs.ScanOrder.{ranked_literal, unnamed_literals}
+use Rattle.sheet_reader.proofs.RankLemmas.{ranks_both, unnamed_next}
 use Rattle.sheet_reader.proofs.scan_order.rank_unnamed.Goals as goal
 
 pub loop-bytes-preserved : goal.loop-bytes-preserved
-loop-bytes-preserved c = record {
-  size = omega (arith, c.in_ok-push_literal.ensures.size, c.loop-bytes.invariant.size);
-  ranks = λ before h. ranked_more c.push_literal.new.self before c.args.literals.now c.loop-bytes.bytes-index c.as_slice.result.now c.bytes-item.result c.loop-bytes-test.true c.bytes-item.is c.as_slice.ensures (c.in_ok-push_literal.ensures.ranks (before ++ take c.loop-bytes.bytes-index c.args.literals.now) (c.loop-bytes.invariant.ranks before h));
-}
+loop-bytes-preserved c =
+    let literals = c.args.literals.now in
+    let i = c.loop-bytes.bytes-index in
+    let token = c.loop-bytes.token in
+    let bytes = c.as_slice.result.now in
+    record {
+      token = omega (arith, c.loop-bytes.invariant.token);
+      ranks = ranks_both c.args.order.now c.loop-bytes.order c.push_literal.new.self (unnamed_literals c.args.first (take i literals)) (ranked_literal token bytes ∷ []) (unnamed_literals c.args.first (take (i + 1) literals)) c.loop-bytes.invariant.ranks c.in_ok-push_literal.ensures (unnamed_next c.args.first literals i token bytes c.bytes-item.result c.loop-bytes-test.true c.bytes-item.is c.as_slice.ensures c.loop-bytes.invariant.token);
+    }

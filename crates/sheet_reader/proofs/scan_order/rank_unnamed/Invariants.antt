@@ -1,9 +1,10 @@
-use Rattle.std.proofs.Common.{◌≡◌, ◌+◌, ℕ, List, ◌++◌, length, take}
-use Rattle.sheet_reader.specs.Ranking.{RanksLiterals}
+use Rattle.std.proofs.Common.{◌≡◌, ◌+◌, take}
+use Rattle.sheet_theory.specs.ScanOrder.{unnamed_literals}
+use Rattle.sheet_reader.proofs.RankLemmas.{RanksMore}
 use Rattle.sheet_reader.proofs.scan_order.rank_unnamed.Given as goal
 
 abbrev pub invariant-loop-bytes : goal.invariant-loop-bytes
 invariant-loop-bytes l = record {
-  size : length l.order.means.items ≡ length l.fn.ranked.means.items + l.bytes-index;
-  ranks : (before : List (List ℕ)) → RanksLiterals l.fn.ranked before → RanksLiterals l.order (before ++ take l.bytes-index l.literals);
+  token : l.token ≡ l.first + l.bytes-index;
+  ranks : RanksMore l.initial.order l.order (unnamed_literals l.first (take l.bytes-index l.literals));
 }

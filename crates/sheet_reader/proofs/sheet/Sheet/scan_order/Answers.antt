@@ -1,38 +1,45 @@
-use Rattle.std.proofs.Common.{ap, sym, subst, ◌∙◌}
-use Rattle.std.specs.Prelude.{All, IfOk}
+use Rattle.std.proofs.Common.{[], length, sym, ap, subst, ◌∙◌, arith}
+use Rattle.std.specs.Prelude.{All}
 use Rattle.sheet_data.specs.Sheet.{Sheet}
-use Rattle.sheet_reader.specs.WellFormed.{IsWellFormed, IsLiteralText, literals_by_token}
-use Rattle.sheet_reader.specs.Ranking.{RanksLiterals}
-use Rattle.sheet_reader.specs.Parts.{parts_of}
-use Rattle.sheet_reader.proofs.RankLemmas.{each_unnamed, few_unnamed, ranked_all, order_patterns, order_means, order_scannable, order_each, order_tokens}
+use Rattle.sheet_theory.specs.Names.{declared_names}
+use Rattle.sheet_theory.specs.ScanOrder.{scan_order}
+use Rattle.sheet_reader.specs.WellFormed.{IsOrdinaryDecl, IsLiteralText, IsWellFormed}
+use Rattle.sheet_reader.specs.Ranking.{IsScannable, token_count, Ranks}
+use Rattle.sheet_reader.proofs.RankLemmas.{scannable, all_tokens, order_ranked, one_meaning_each}
 use Rattle.sheet_reader.proofs.sheet.Sheet.scan_order.Goals as goal
 
-well_formed : (c : goal.After-rank_unnamed) → IsWellFormed c.args.self.now
+pub rank_literals-requires : goal.rank_literals-requires
+rank_literals-requires c = record {
+  each = subst (All IsOrdinaryDecl) (sym c.deref.ensures.value) c.self.invariant.decls;
+  few = omega (arith, ap (λ ds. length (declared_names ds)) c.deref.ensures.value, c.self.invariant.count);
+}
+
+pub rank_unnamed-requires : goal.rank_unnamed-requires
+rank_unnamed-requires c = record {
+  each = subst (All IsLiteralText) (sym c.deref-2.ensures.value) c.self.invariant.literals;
+  few = omega (arith, ap length c.deref-2.ensures.value, c.declared_tokens.ensures, ap (λ (s : Sheet). length (declared_names s.decls)) c.self.view_is, c.self.invariant.count);
+}
+
+pub rank_patterns-requires : goal.rank_patterns-requires
+rank_patterns-requires c = omega (arith, ap (λ ds. length (declared_names ds)) c.deref-3.ensures.value, c.self.invariant.count)
+
+well_formed : (c : goal.In_ok-rank_patterns) → IsWellFormed c.args.self.now
 well_formed c = subst IsWellFormed c.self.view_is c.self.invariant
 
-all_ranked : (c : goal.After-rank_unnamed) → IfOk c.rank_unnamed.result (λ order. RanksLiterals order (literals_by_token c.args.self.now))
+all_ranked : (c : goal.In_ok-rank_patterns) → Ranks c.rank_patterns.new.order (scan_order c.args.self.now)
 all_ranked c =
-    ranked_all c.rank_unnamed.result c.args.self.now c.in_ok-declared.declared c.as_slice.result.now c.as_slice-2.result.now (c.as_slice.ensures.value ∙ ap (λ (s : Sheet). s.decls) c.self.view_is) (c.as_slice-2.ensures.value ∙ ap (λ (s : Sheet). s.literals) c.self.view_is) c.in_ok-declared.ensures c.rank_unnamed.ensures
+    let decls = ap (λ (s : Sheet). s.decls) c.self.view_is in
+    let literals = ap (λ (s : Sheet). s.literals) c.self.view_is in
+    order_ranked c.args.self.now c.rank_patterns.new.order c.deref.result.now c.deref-3.result.now c.deref-2.result.now c.declared_tokens.result (c.deref.ensures.value ∙ decls) (c.deref-3.ensures.value ∙ decls) (c.deref-2.ensures.value ∙ literals) c.declared_tokens.ensures (c.in_ok-rank_patterns.ensures _ (c.in_ok-rank_unnamed.ensures _ (c.in_ok-rank_literals.ensures [] c.new-order.ensures)))
 
-pub rank_unnamed-requires-clause-each : goal.rank_unnamed-requires-clause-each
-rank_unnamed-requires-clause-each c =
-    subst (All IsLiteralText) (sym c.as_slice-2.ensures.value) (each_unnamed (parts_of c.self.inside) c.self.invariant)
-
-pub rank_unnamed-requires-clause-few : goal.rank_unnamed-requires-clause-few
-rank_unnamed-requires-clause-few c =
-    few_unnamed (parts_of c.self.inside) c.in_ok-declared.declared c.as_slice.result.now c.as_slice-2.result.now c.self.invariant c.as_slice.ensures.value c.as_slice-2.ensures.value c.in_ok-declared.ensures
-
-pub returns-clause-patterns : goal.returns-clause-patterns
-returns-clause-patterns c = order_patterns c.rank_unnamed.result c.args.self.now (well_formed c) (all_ranked c)
-
-pub returns-clause-means : goal.returns-clause-means
-returns-clause-means c = order_means c.rank_unnamed.result c.args.self.now (well_formed c) (all_ranked c)
-
-pub returns-clause-scannable : goal.returns-clause-scannable
-returns-clause-scannable c = order_scannable c.rank_unnamed.result c.args.self.now (well_formed c) (all_ranked c)
-
-pub returns-clause-each : goal.returns-clause-each
-returns-clause-each c = order_each c.rank_unnamed.result c.args.self.now (all_ranked c)
-
-pub returns-clause-tokens : goal.returns-clause-tokens
-returns-clause-tokens c = order_tokens c.rank_unnamed.result c.args.self.now (well_formed c) (all_ranked c)
+pub returns : goal.returns
+returns c =
+    let good = well_formed c in
+    let ranks = all_ranked c in
+    record {
+      patterns = ranks.patterns;
+      means = ranks.means;
+      scannable = subst IsScannable (sym ranks.patterns) (scannable c.args.self.now good);
+      each = one_meaning_each c.rank_patterns.new.order (scan_order c.args.self.now) ranks;
+      tokens = ap token_count ranks.means ∙ all_tokens c.args.self.now good;
+    }

@@ -1,0 +1,20 @@
+use Rattle.sheet_theory.specs.ScanOrder.{declared_patterns}
+use Rattle.std.proofs.Common.{◌+◌, [], ◌∷◌, take, arith}
+use Rattle.sheet_reader.proofs.RankLemmas.{ranks_both, names_next, patterns_next, few_names}
+use Rattle.sheet_reader.proofs.scan_order.rank_patterns.Goals as goal
+
+pub next_token-token-requires : goal.next_token-token-requires
+next_token-token-requires c =
+    let few = few_names c.args.decls.now c.loop-decl.decl-index c.decl-item.result c.loop-decl-test.true c.decl-item.is in
+    omega (arith, few, c.loop-decl.invariant.token, c.requires)
+
+pub loop-decl-preserved : goal.loop-decl-preserved
+loop-decl-preserved c =
+    let decls = c.args.decls.now in
+    let i = c.loop-decl.decl-index in
+    let decl = c.decl-item.result in
+    let token = c.loop-decl.token in
+    record {
+      token = names_next decls i token c.next_token-token.result decl c.loop-decl-test.true c.decl-item.is c.loop-decl.invariant.token c.next_token-token.ensures;
+      ranks = ranks_both c.args.order.now c.loop-decl.order c.rank_pattern.new.order (declared_patterns 0 (take i decls)) (declared_patterns token (decl ∷ [])) (declared_patterns 0 (take (i + 1) decls)) c.loop-decl.invariant.ranks c.in_ok-rank_pattern.ensures (patterns_next decls i token decl c.loop-decl-test.true c.decl-item.is c.loop-decl.invariant.token);
+    }
