@@ -7,13 +7,11 @@ use Rattle.scanning_theory.specs.Scan.{AreTokens}
 use Rattle.scanning_theory.proofs.ScanLemmas.{lines_once}
 use Rattle.scanning_theory.proofs.SomeList.{some_list}
 use Rattle.sheet_data.specs.Sheet.{Sheet}
-use Rattle.sheet_laws.proofs.ReadLemmas.{one_sheet}
-use Rattle.sheet_laws.proofs.FaultLemmas.{one_first_fault, no_first_fault}
-use Rattle.sheet_laws.proofs.AnswerLemmas.{some_sheet_or_fault}
 use Rattle.outline_theory.specs.Layout.{layout}
-use Rattle.first_sets.specs.UselessNames.{IsUseful, IsDue}
+use Rattle.first_sets.specs.UselessNames.{IsUseful}
 use Rattle.first_sets.proofs.CauseLemmas.{useful_law, one_fault_law}
 use Rattle.lrpar_cli.specs.FaultTexts.{fault_text, useless_text}
+use Rattle.lrpar_cli.proofs.FaultLemmas.{fault_once, accepted_once, not_refused, some_accepted_or_fault}
 use Rattle.lrpar_cli.proofs.UselessLemmas.{some_useless}
 use Rattle.sheet_theory.specs.ScanOrder.{Ranked, scan_order, scanning_of}
 use Rattle.sheet_theory.specs.TokenList.{token_list}
@@ -29,31 +27,28 @@ AreSame more status other_status out other_out err other_err = (more ≡ []) × 
 
 -- what is said of bytes that are no sheet's
 said_once : (bytes said other : List ℕ) → Refuses bytes said → Refuses bytes other → said ≡ other
-said_once bytes said other one two = one.is ∙ ap fault_text (one_first_fault bytes one.fault two.fault one.first two.first) ∙ sym two.is
-
-not_refused : {bytes said : List ℕ} (sheet : Sheet) → Accepts bytes sheet → ¬ (Refuses bytes said)
-not_refused {bytes = bytes} sheet accepted refused = no_first_fault bytes sheet refused.fault accepted refused.first
+said_once bytes said other one two = one.is ∙ ap fault_text (fault_once bytes one.found two.found) ∙ sym two.is
 
 -- what is said of a useless name, and what is printed
 name_once : (bytes : List ℕ) (sheet other : Sheet) (said others : List ℕ) → Accepts bytes sheet → Accepts bytes other → IsUseless sheet said → IsUseless other others → said ≡ others
 name_once bytes sheet other said others accepted other_accepted one two =
-    let sheets : other ≡ sheet = one_sheet bytes other sheet other_accepted accepted in
+    let sheets : other ≡ sheet = accepted_once bytes other sheet other_accepted accepted in
     let moved : IsUseless sheet others = subst (λ s. IsUseless s others) sheets two in
     one.is ∙ ap (useless_text sheet) (one_fault_law sheet.grammar one.fault moved.fault one.due moved.due one.name moved.name) ∙ sym moved.is
 
 not_useful : (bytes : List ℕ) (sheet other : Sheet) (said : List ℕ) → Accepts bytes sheet → Accepts bytes other → IsUseful sheet.grammar → ¬ (IsUseless other said)
 not_useful bytes sheet other said accepted other_accepted useful h =
-    let sheets : other ≡ sheet = one_sheet bytes other sheet other_accepted accepted in
+    let sheets : other ≡ sheet = accepted_once bytes other sheet other_accepted accepted in
     let moved : IsUseless sheet said = subst (λ s. IsUseless s said) sheets h in
     moved.name (useful_law sheet.grammar moved.fault useful moved.due)
 
 layout_once : (bytes : List ℕ) (sheet other : Sheet) → Accepts bytes sheet → Accepts bytes other → layout sheet ≡ layout other
-layout_once bytes sheet other accepted other_accepted = ap layout (one_sheet bytes sheet other accepted other_accepted)
+layout_once bytes sheet other accepted other_accepted = ap layout (accepted_once bytes sheet other accepted other_accepted)
 
 -- a sheet and a text have one list of tokens
 list_once : (bytes text : List ℕ) (sheet other : Sheet) (tokens others : List Token) → Accepts bytes sheet → Accepts bytes other → AreTokens (scanning_of sheet) text tokens → AreTokens (scanning_of other) text others → token_list sheet text tokens ≡ token_list other text others
 list_once bytes text sheet other tokens others accepted other_accepted are other_are =
-    let sheets : other ≡ sheet = one_sheet bytes other sheet other_accepted accepted in
+    let sheets : other ≡ sheet = accepted_once bytes other sheet other_accepted accepted in
     let moved : AreTokens (scanning_of sheet) text others = subst (λ s. AreTokens (scanning_of s) text others) sheets other_are in
     ap (token_list sheet text) (lines_once (scanning_of sheet) text are others moved) ∙ ap (λ s. token_list s text others) (sym sheets)
 
@@ -65,10 +60,10 @@ module _ (sheet_name text_name bytes : List ℕ) where
       (cc, refl, refl, said_once bytes said _ refused (subst (λ b. Refuses b err) same other))
   after_refused more refused e (text_too_long {bytes = read} {sheet = sheet} accepted long) =
       let same : read ≡ bytes = cc in
-      absurd (not_refused sheet (subst (λ b. Accepts b sheet) same accepted) refused)
+      absurd (not_refused bytes sheet (subst (λ b. Accepts b sheet) same accepted) refused)
   after_refused more refused e (tokens_listed {bytes = read} {sheet = sheet} tokens accepted short are is) =
       let same : read ≡ bytes = cc in
-      absurd (not_refused sheet (subst (λ b. Accepts b sheet) same accepted) refused)
+      absurd (not_refused bytes sheet (subst (λ b. Accepts b sheet) same accepted) refused)
 
   module _ (text : List ℕ) where
     -- where the text was too long
@@ -99,15 +94,15 @@ module _ (sheet_name bytes : List ℕ) where
       (cc, refl, refl, said_once bytes said err refused (subst (λ b. Refuses b err) same other))
   after_check_refused more refused e (name_refused {bytes = read} {sheet = sheet} accepted useless) =
       let same : read ≡ bytes = cc in
-      absurd (not_refused sheet (subst (λ b. Accepts b sheet) same accepted) refused)
+      absurd (not_refused bytes sheet (subst (λ b. Accepts b sheet) same accepted) refused)
   after_check_refused more refused e (layout_printed {bytes = read} {sheet = sheet} accepted useful is) =
       let same : read ≡ bytes = cc in
-      absurd (not_refused sheet (subst (λ b. Accepts b sheet) same accepted) refused)
+      absurd (not_refused bytes sheet (subst (λ b. Accepts b sheet) same accepted) refused)
 
   after_name : {said : List ℕ} {sheet : Sheet} {all : List (List ℕ)} {status : Status} {out err : List ℕ} (more : List (List ℕ)) → Accepts bytes sheet → IsUseless sheet said → all ≡ bytes ∷ more → Answers (Check sheet_name) all status out err → AreSame more refused_sheet status [] out said err
   after_name {sheet = sheet} {err = err} more accepted useless e (check_refused {bytes = read} refused) =
       let same : read ≡ bytes = cc in
-      absurd (not_refused sheet accepted (subst (λ b. Refuses b err) same refused))
+      absurd (not_refused bytes sheet accepted (subst (λ b. Refuses b err) same refused))
   after_name {said = said} {sheet = sheet} {err = err} more accepted useless e (name_refused {bytes = read} {sheet = other} other_accepted other_useless) =
       let same : read ≡ bytes = cc in
       (cc, refl, refl, name_once bytes sheet other said err accepted (subst (λ b. Accepts b other) same other_accepted) useless other_useless)
@@ -118,7 +113,7 @@ module _ (sheet_name bytes : List ℕ) where
   after_layout : {printed : List ℕ} {sheet : Sheet} {all : List (List ℕ)} {status : Status} {out err : List ℕ} (more : List (List ℕ)) → Accepts bytes sheet → IsUseful sheet.grammar → printed ≡ layout sheet → all ≡ bytes ∷ more → Answers (Check sheet_name) all status out err → AreSame more Done status printed out [] err
   after_layout {sheet = sheet} {err = err} more accepted useful is e (check_refused {bytes = read} refused) =
       let same : read ≡ bytes = cc in
-      absurd (not_refused sheet accepted (subst (λ b. Refuses b err) same refused))
+      absurd (not_refused bytes sheet accepted (subst (λ b. Refuses b err) same refused))
   after_layout {sheet = sheet} {err = err} more accepted useful is e (name_refused {bytes = read} {sheet = other} other_accepted useless) =
       let same : read ≡ bytes = cc in
       absurd (not_useful bytes sheet other err accepted (subst (λ b. Accepts b other) same other_accepted) useful useless)
@@ -171,16 +166,16 @@ module _ (words : List (List ℕ)) (sheet_name text_name : List ℕ) (form : Has
       (cases_lt text_limit (length text))
 
   some_end : ⊥
-  some_end = some_sheet_or_fault bytes none_accepted (λ fault first. none (bytes ∷ []) (text ∷ []) refused_sheet [] (fault_text fault) refl (by_command form (sheet_refused (record { fault = fault; first = first; is = refl }))))
+  some_end = some_accepted_or_fault bytes none_accepted (λ fault found. none (bytes ∷ []) (text ∷ []) refused_sheet [] (fault_text fault) refl (by_command form (sheet_refused (record { fault = fault; found = found; is = refl }))))
 
 -- nor after the sheet that is checked
 some_check : (words : List (List ℕ)) (sheet_name : List ℕ) → HasForm words (Check sheet_name) → (bytes : List ℕ) → HasNoEnd words (bytes ∷ []) → ⊥
 some_check words sheet_name form bytes none =
-    some_sheet_or_fault bytes
+    some_accepted_or_fault bytes
     (λ sheet accepted. some_useless sheet.grammar
     (λ useful. none (bytes ∷ []) [] Done (layout sheet) [] refl (by_command form (layout_printed accepted useful refl)))
     (λ fault due name. none (bytes ∷ []) [] refused_sheet [] (useless_text sheet fault) refl (by_command form (name_refused accepted (record { fault = fault; due = due; name = name; is = refl })))))
-    (λ fault first. none (bytes ∷ []) [] refused_sheet [] (fault_text fault) refl (by_command form (check_refused (record { fault = fault; first = first; is = refl }))))
+    (λ fault found. none (bytes ∷ []) [] refused_sheet [] (fault_text fault) refl (by_command form (check_refused (record { fault = fault; found = found; is = refl }))))
 
 -- it is refuted that a call has no answer
 pub ends_some : (words : List (List ℕ)) (command : Command) (inputs : List (List ℕ)) → HasForm words command → length inputs ≡ length (names_read command) → HasNoEnd words inputs → ⊥

@@ -14,10 +14,10 @@ use Rattle.sheet_theory.specs.ScanOrder.{scanning_of}
 use Rattle.sheet_theory.specs.TokenList.{token_list, listed_tokens}
 use Rattle.lrpar_cli.specs.declared.status.Status.{Status}
 use Rattle.lrpar_cli.specs.declared.status.Status.TheVariants.{Done, Words, Sheet as refused_sheet, TextTooLong, ReadFault, WriteFault}
-use Rattle.lrpar_cli.specs.Answer.{Accepts, Refuses, IsUseless, Answers, sheet_refused, text_too_long, tokens_listed, check_refused, name_refused, layout_printed, Ends, bad_words, by_command, text_limit, bad_words_text, long_text_text, read_fault_text, write_fault_text}
+use Rattle.lrpar_cli.specs.Answer.{Accepts, Answers, sheet_refused, text_too_long, tokens_listed, check_refused, name_refused, layout_printed, Ends, bad_words, by_command, text_limit, bad_words_text, long_text_text, read_fault_text, write_fault_text}
 use Rattle.outline_theory.specs.Layout.{layout}
 use Rattle.first_sets.specs.UselessNames.{IsUseful}
-use Rattle.sheet_laws.proofs.FaultLemmas.{no_first_fault}
+use Rattle.lrpar_cli.proofs.FaultLemmas.{not_refused}
 use Rattle.lrpar_cli.specs.Endings.{Stands, AreRead, no_more_read, one_read, AreReadFor, IsDue, IsReadFault, due_said, fault_said, Fails, Fits, HaveRoom, AreServed, StopsEarly, IsSilent, Sinks, IsWriteFault, at_out, at_err, nothing_taken, some_taken, IsEnding, answered, read_fault, write_fault, no_memory, IsSpoken, spoken, unspoken, IsListing, listed_whole, listed_in_part, listed_cut, not_listed, IsWriting, written_whole, written_in_part, not_written}
 use Rattle.lrpar_cli.specs.Inputs.{IsRead, IsRefusedSheet, IsNameStop, IsLongText}
 use Rattle.lrpar_cli.specs.Stops.{IsStopSaid}
@@ -94,7 +94,7 @@ module _ (stands : Stands) (served words : List (List ℕ)) (shelf_before shelf_
 
     -- nor before the text was read, where the sheet is accepted
     accepted_due : (bytes : List ℕ) (sheet : Sheet) → Accepts bytes sheet → (status : Status) (out err : List ℕ) → ¬ (Answers (Tokens sheet_name text_name) (bytes ∷ []) status out err)
-    accepted_due bytes sheet accepted status out err (sheet_refused refused) = no_first_fault bytes sheet refused.fault accepted refused.first
+    accepted_due bytes sheet accepted status out err (sheet_refused refused) = not_refused bytes sheet accepted refused
 
     -- the call stops at the sheet
     pub ending_at_sheet : (stop : Stop) (result : Status) → ((what : List ℕ) → stop ≡ sheet_stop what → IsRefusedSheet (stands sheet_name) what) → stop ≢ long_stop
@@ -275,6 +275,11 @@ silent_stop before after room f g long_stop status (unspoken failed) silent = ab
 silent_stop before after room f g read_stop status (spoken grown) silent = absurd silent
 silent_stop before after room f g read_stop status (unspoken failed) silent = absurd silent
 silent_stop before after room f g memory_stop status said silent = refl
+
+-- what is said of a failed writing is no early stop
+pub saying_late : {before after : Option (List ℕ)} {room f g : ℕ} {said : List ℕ} {status : Status} → IsSpoken before after room f g said WriteFault status → ¬ (StopsEarly status)
+saying_late (spoken grown) early = early
+saying_late (unspoken failed) early = early
 
 -- the writing of a text's tokens is no early stop
 pub listing_late : (sheet : Sheet) (text : List ℕ) (sinks : Sinks) (status : Status) → IsListing sheet text sinks status → ¬ (StopsEarly status)

@@ -1,3 +1,4 @@
+pub mod FaultLemmas
 pub mod AnswerLemmas
 pub mod BlockLemmas
 pub mod CallLemmas

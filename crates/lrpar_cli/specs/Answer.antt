@@ -3,10 +3,13 @@
 use Rattle.std.specs.Prelude.{◌≡◌, ◌≢◌, ℕ, ◌<◌, ◌≤◌, List, [], ◌∷◌, length, codes}
 use Rattle.grammar_data.specs.declared.token.Token.{Token}
 use Rattle.scanning_theory.specs.Scan.{AreTokens}
+use Rattle.position_theory.specs.States.{HasMoreStates}
 use Rattle.sheet_data.specs.Sheet.{Sheet}
 use Rattle.sheet_theory.specs.ScanOrder.{scanning_of}
 use Rattle.sheet_theory.specs.TokenList.{token_list}
+use Rattle.outline_data.specs.declared.fault.LimitKind.TheVariants.{ScannerStates}
 use Rattle.outline_data.specs.declared.fault.SheetFault.{SheetFault}
+use Rattle.outline_data.specs.declared.fault.SheetFault.TheVariants.{Limit}
 use Rattle.outline_theory.specs.Layout.{layout}
 use Rattle.outline_theory.specs.Reading.{Reads, IsFirstFault}
 use Rattle.first_sets.specs.declared.fault.UselessFault.{UselessFault}
@@ -33,14 +36,28 @@ read_fault_text = codes "read fault\n"
 abbrev pub write_fault_text : List ℕ
 write_fault_text = codes "write fault\n"
 
--- the bytes are a sheet's
-abbrev pub Accepts : List ℕ → Sheet → Type 0
-Accepts bytes sheet = Reads bytes sheet
+-- the sheet's patterns have more states than a scanner may have
+abbrev pub HasTooManyStates : Sheet → Type 0
+HasTooManyStates sheet = HasMoreStates (scanning_of sheet).patterns 20000
 
--- the bytes are no sheet's, and this is said of their first fault
+-- the fault of such a sheet
+abbrev pub states_fault : SheetFault
+states_fault = Limit ScannerStates 20001
+
+-- the bytes are a sheet's, and a scanner can have the states of its patterns
+pub record Accepts (bytes : List ℕ) (sheet : Sheet) : Type 0 where
+  pub reads : Reads bytes sheet
+  pub few : ¬ (HasTooManyStates sheet)
+
+-- the fault of the bytes: the first of their reading; or they are a sheet's, whose patterns have too many states
+pub data IsFault (bytes : List ℕ) : SheetFault → Type 0 where
+  of_reading : {fault : SheetFault} → IsFirstFault bytes fault → IsFault bytes fault
+  of_states : {sheet : Sheet} → Reads bytes sheet → HasTooManyStates sheet → IsFault bytes states_fault
+
+-- the bytes have a fault, and this is said of it
 pub record Refuses (bytes said : List ℕ) : Type 0 where
   pub fault : SheetFault
-  pub first : IsFirstFault bytes fault
+  pub found : IsFault bytes fault
   pub is : said ≡ fault_text fault
 
 -- a name of the sheet is useless, and this is said of the first

@@ -4,7 +4,7 @@ use Rattle.sheet_data.specs.Sheet.{Sheet}
 use Rattle.outline_data.specs.declared.fault.LimitKind.{LimitKind}
 use Rattle.outline_data.specs.declared.fault.LimitKind.TheVariants.{SheetBytes, Tokens, Skips, Names, Rules, RightSide, Symbols, Positions, ScannerStates}
 use Rattle.outline_data.specs.declared.fault.SheetFault.{SheetFault}
-use Rattle.outline_data.specs.declared.fault.SheetFault.TheVariants.{BadByte, Syntax, FormNotBuilt, BadPattern, PatternMatchesEmpty, Redeclared, UnknownSymbol, NoRules, PlaceOutOfRange, PlaceTwice, NotAToken, Limit, NoMemory}
+use Rattle.outline_data.specs.declared.fault.SheetFault.TheVariants.{BadByte, Syntax, BadPattern, PatternMatchesEmpty, Redeclared, UnknownSymbol, NoRules, PlaceOutOfRange, PlaceTwice, NotAToken, Limit, NoMemory}
 use Rattle.first_sets.specs.declared.fault.UselessFault.{UselessFault}
 use Rattle.first_sets.specs.declared.fault.UselessFault.TheVariants.{Unproductive, Unreachable, EmptyTooLarge, NoMemory as exhausted}
 
@@ -29,7 +29,6 @@ limit_said kind count = codes "sheet fault 11: too large: " ++ (kind_name kind +
 abbrev pub fault_text : SheetFault → List ℕ
 fault_text (BadByte line) = said_on 1 line (codes "bad byte")
 fault_text (Syntax line) = said_on 2 line (codes "syntax")
-fault_text FormNotBuilt = codes "sheet form not built\n"
 fault_text (BadPattern line) = said_on 3 line (codes "bad pattern")
 fault_text (PatternMatchesEmpty line) = said_on 4 line (codes "pattern matches the empty text")
 fault_text (Redeclared line) = said_on 5 line (codes "redeclared")

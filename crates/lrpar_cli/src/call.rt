@@ -2,10 +2,11 @@ ghost use Rattle.std.specs.Prelude.{◌≡◌, ◌≢◌, ◌≤◌, ◌⊎◌, 
 ghost use Rattle.outline_theory.specs.Layout.{layout};
 ghost use Rattle.lrpar_cli.specs.Answer.{text_limit};
 ghost use Rattle.lrpar_cli.specs.Endings.{IsEnding, IsListing, IsWriting, IsSpoken, HaveRoom, AreServed, StopsEarly, IsSilent};
+ghost use Rattle.lrpar_cli.specs.Inputs.{IsReady};
 ghost use Rattle.lrpar_cli.specs.Stops.{IsStopSaid};
 ghost use Rattle.lrpar_cli.specs.Words.{Command, Tokens, Check, HasForm, IsBadWords, IsCommand};
 
-use crate::inputs::{Stop, check_names, lex_text, read_accepted, read_text};
+use crate::inputs::{Accepted, Stop, check_names, lex_text, read_accepted, read_text};
 use crate::status::Status;
 use crate::token_list::{ListFault, write_list};
 use crate::words::{Command as Asked, command_of};
@@ -52,13 +53,14 @@ fn say_stop<E: Sink>(err: &mut E, stop: Stop) -> Status
 /// Writes the token list of a text.
 fn write_tokens<O: Sink, E: Sink>(
     alloc: Global,
-    sheet: &Sheet,
+    accepted: &Accepted,
     text: &[u8],
     out: &mut O,
     err: &mut E,
 ) -> Status
-    requires { length text.now ≤ text_limit }
-    ensures listing { IsListing sheet.now text.now (record {
+    requires short { length text.now ≤ text_limit }
+    requires ready { IsReady accepted.now }
+    ensures listing { IsListing accepted.now.sheet text.now (record {
       out_room = O.room out.old;
       err_room = E.room err.old;
       out_before = O.taken out.old;
@@ -77,11 +79,11 @@ fn write_tokens<O: Sink, E: Sink>(
     ensures err_later { E.faults err.old ≤ E.faults err.new }
     ensures err_room { E.room err.new ≡ E.room err.old }
 {
-    let lexed = match lex_text(alloc, sheet, text) {
+    let lexed = match lex_text(alloc, accepted, text) {
         Ok(lexed) => lexed,
         Err(_) => return Status::NoMemory,
     };
-    let names = match sheet.token_texts() {
+    let names = match accepted.sheet.token_texts() {
         Ok(names) => names,
         Err(_) => return Status::NoMemory,
     };
@@ -125,15 +127,15 @@ fn list_tokens<S: Shelf, O: Sink, E: Sink>(
     ensures err_later { E.faults err.old ≤ E.faults err.new }
     ensures err_room { E.room err.new ≡ E.room err.old }
 {
-    let sheet = match read_accepted(alloc, shelf, sheet_name) {
-        Ok(sheet) => sheet,
+    let accepted = match read_accepted(alloc, shelf, sheet_name) {
+        Ok(accepted) => accepted,
         Err(stop) => return say_stop(err, stop),
     };
     let text = match read_text(alloc, shelf, text_name) {
         Ok(text) => text,
         Err(stop) => return say_stop(err, stop),
     };
-    write_tokens(alloc, &sheet, &text, out, err)
+    write_tokens(alloc, &accepted, &text, out, err)
 }
 
 /// Writes a sheet's normal layout.
@@ -199,12 +201,13 @@ fn check_sheet<S: Shelf, O: Sink, E: Sink>(
     ensures err_later { E.faults err.old ≤ E.faults err.new }
     ensures err_room { E.room err.new ≡ E.room err.old }
 {
-    let sheet = match read_accepted(alloc, shelf, sheet_name) {
-        Ok(sheet) => sheet,
+    let accepted = match read_accepted(alloc, shelf, sheet_name) {
+        Ok(accepted) => accepted,
         Err(stop) => return say_stop(err, stop),
     };
-    match check_names(alloc, &sheet) {
-        Ok(()) => write_layout(alloc, &sheet, out, err),
+    let sheet = &accepted.sheet;
+    match check_names(alloc, sheet) {
+        Ok(()) => write_layout(alloc, sheet, out, err),
         Err(stop) => say_stop(err, stop),
     }
 }

@@ -60,7 +60,6 @@ pub fn fault_text(alloc: Global, fault: SheetFault) -> Result<Vec<u8>, AllocErro
     match fault {
         SheetFault::BadByte(line) => on_line(alloc, 1, line, b"bad byte"),
         SheetFault::Syntax(line) => on_line(alloc, 2, line, b"syntax"),
-        SheetFault::FormNotBuilt => Vec::from_slice(alloc, b"sheet form not built\n".as_slice()),
         SheetFault::BadPattern(line) => on_line(alloc, 3, line, b"bad pattern"),
         SheetFault::PatternMatchesEmpty(line) => {
             on_line(alloc, 4, line, b"pattern matches the empty text")

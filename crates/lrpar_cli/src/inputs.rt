@@ -6,20 +6,21 @@ ghost use Rattle.sheet_theory.specs.ScanOrder.{scanning_of};
 ghost use Rattle.outline_data.specs.declared.fault.LimitKind.TheVariants.{SheetBytes};
 ghost use Rattle.outline_data.specs.declared.fault.SheetFault.TheVariants.{Limit};
 ghost use Rattle.first_sets.specs.UselessNames.{IsUseful, IsDue};
-ghost use Rattle.lrpar_cli.specs.Answer.{Accepts, text_limit};
+ghost use Rattle.lrpar_cli.specs.Answer.{Accepts, HasTooManyStates, text_limit, states_fault};
 ghost use Rattle.lrpar_cli.specs.FaultTexts.{fault_text as text_of_fault, useless_text as text_of_useless};
-ghost use Rattle.lrpar_cli.specs.Inputs.{IsRefusal, IsRefusedBy, IsNameStop, IsRefusedSheet, IsLongText, IsRead};
+ghost use Rattle.lrpar_cli.specs.Inputs.{IsReady, IsRefusal, IsRefusedBy, IsStatesStop, IsNameStop, IsRefusedSheet, IsLongText, IsRead};
 
 use crate::fault_texts::{fault_text, useless_text};
 use first_sets::{UselessFault, analyse};
 use grammar_data::Token;
 use line_lexer::{Lines, lex_lines};
 use lr_base::{Grammar, NoMemory, ReadFault, SHEET_BYTES, Shelf, TEXT_BYTES, Text, read_all};
+use pattern_data::Meaning;
 use sheet_data::Bytes;
-use sheet_reader::{LimitKind, Sheet, SheetFault, read_sheet};
+use sheet_reader::{LimitKind, ScanOrder, Sheet, SheetFault, read_sheet};
 use std::alloc::Global;
 use thiserror::Error;
-use token_patterns::{Scanner, ScannerFault};
+use token_patterns::{STATES, Scanner, ScannerFault};
 
 /// Why a command does not come to its output.
 #[derive(Debug, Drop, Error)]
@@ -35,6 +36,14 @@ pub enum Stop {
     NoMemory,
 }
 
+/// A sheet that is accepted, with the scanner of its patterns and what the string of each rank is.
+#[derive(Drop)]
+pub struct Accepted {
+    pub sheet: Sheet,
+    pub scanner: Scanner,
+    pub means: Vec<Meaning>,
+}
+
 /// The refusal of a sheet with a fault.
 fn refusal(alloc: Global, fault: SheetFault) -> Stop
     ensures { IsRefusal (text_of_fault fault) result }
@@ -45,9 +54,10 @@ fn refusal(alloc: Global, fault: SheetFault) -> Stop
     }
 }
 
-/// Reads a sheet, which has to be accepted.
-pub fn read_accepted<S: Shelf>(alloc: Global, shelf: &mut S, name: &str) -> Result<Sheet, Stop>
-    ensures accepted { IfOk result (λ sheet. (bytes : List ℕ) × IsRead (S.stands shelf.old name.now) bytes × Accepts bytes sheet) }
+/// Reads a sheet, which has to be accepted, and builds its scanner.
+pub fn read_accepted<S: Shelf>(alloc: Global, shelf: &mut S, name: &str) -> Result<Accepted, Stop>
+    ensures accepted { IfOk result (λ a. (bytes : List ℕ) × IsRead (S.stands shelf.old name.now) bytes × Accepts bytes a.sheet) }
+    ensures ready { IfOk result (λ a. IsReady a) }
     ensures refused { (said : List ℕ) → result ≡ Err (Stop.Sheet said) → IsRefusedSheet (S.stands shelf.old name.now) said }
     ensures long { result ≢ Err Stop.TextTooLong }
     ensures rose { result ≡ Err Stop.ReadFault → Rose (S.faults shelf.old) (S.faults shelf.new) }
@@ -63,7 +73,7 @@ pub fn read_accepted<S: Shelf>(alloc: Global, shelf: &mut S, name: &str) -> Resu
         Err(ReadFault::NoMemory) => return Err(Stop::NoMemory),
     };
     match accept(alloc, &bytes) {
-        Ok(sheet) => Ok(sheet),
+        Ok(accepted) => Ok(accepted),
         Err(stop) => Err(stop),
     }
 }
@@ -78,13 +88,46 @@ fn too_long_sheet(alloc: Global) -> Stop
     )
 }
 
-/// The sheet of these bytes, or what is said of their first fault.
-fn accept(alloc: Global, bytes: &[u8]) -> Result<Sheet, Stop>
-    ensures accepted { IfOk result (λ sheet. Accepts bytes.now sheet) }
+/// The refusal of a sheet whose patterns have too many states.
+fn states_refusal(alloc: Global) -> Stop
+    ensures { IsRefusal (text_of_fault states_fault) result }
+{
+    refusal(
+        alloc,
+        SheetFault::Limit(LimitKind::ScannerStates, STATES as u64 + 1),
+    )
+}
+
+/// A sheet with the scanner of its patterns, unless they have too many states.
+fn with_scanner(alloc: Global, sheet: Sheet) -> Result<Accepted, Stop>
+    ensures sheet { IfOk result (λ a. a.sheet ≡ sheet) }
+    ensures few { IfOk result (λ _. ¬ (HasTooManyStates sheet)) }
+    ensures ready { IfOk result (λ a. IsReady a) }
+    ensures refused { IfErr result (λ stop. IsStatesStop sheet stop) }
+{
+    let Ok(order) = sheet.scan_order() else {
+        return Err(Stop::NoMemory);
+    };
+    let ScanOrder { patterns, means } = order;
+    match Scanner::build(alloc, &patterns) {
+        Ok(scanner) => Ok(Accepted {
+            sheet,
+            scanner,
+            means,
+        }),
+        Err(ScannerFault::TooManyStates) => Err(states_refusal(alloc)),
+        Err(ScannerFault::NoMemory) => Err(Stop::NoMemory),
+    }
+}
+
+/// The sheet of these bytes with its scanner, or what is said of their fault.
+fn accept(alloc: Global, bytes: &[u8]) -> Result<Accepted, Stop>
+    ensures accepted { IfOk result (λ a. Accepts bytes.now a.sheet) }
+    ensures ready { IfOk result (λ a. IsReady a) }
     ensures refused { IfErr result (λ stop. IsRefusedBy bytes.now stop) }
 {
     match read_sheet(alloc, bytes) {
-        Ok(sheet) => Ok(sheet),
+        Ok(sheet) => with_scanner(alloc, sheet),
         Err(SheetFault::NoMemory) => Err(Stop::NoMemory),
         Err(fault) => Err(refusal(alloc, fault)),
     }
@@ -150,19 +193,15 @@ pub struct Lexed {
 }
 
 /// Finds a text's tokens.
-pub fn lex_text(alloc: Global, sheet: &Sheet, text: &[u8]) -> Result<Lexed, NoMemory>
-    requires { length text.now ≤ text_limit }
+pub fn lex_text(alloc: Global, accepted: &Accepted, text: &[u8]) -> Result<Lexed, NoMemory>
+    requires short { length text.now ≤ text_limit }
+    requires ready { IsReady accepted.now }
     ensures lines { IfOk result (λ l. l.lines ≡ line_starts text.now) }
-    ensures tokens { IfOk result (λ l. AreTokens (scanning_of sheet.now) text.now l.tokens.items) }
+    ensures tokens { IfOk result (λ l. AreTokens (scanning_of accepted.now.sheet) text.now l.tokens.items) }
 {
-    let order = sheet.scan_order()?;
-    let scanner = match Scanner::build(alloc, &order.patterns) {
-        Ok(scanner) => scanner,
-        Err(ScannerFault::TooManyStates) => unreachable!(),
-        Err(ScannerFault::NoMemory) => return Err(NoMemory),
-    };
+    let Accepted { scanner, means, .. } = accepted;
     let lines = Lines::of(alloc, text)?;
     let count = lines.count();
-    let tokens = lex_lines(alloc, &scanner, &order.means, text, &lines, 0, count)?;
+    let tokens = lex_lines(alloc, scanner, means, text, &lines, 0, count)?;
     Ok(Lexed { lines, tokens })
 }

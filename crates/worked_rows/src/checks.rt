@@ -88,7 +88,7 @@ static FAULTS: [Fault; 26] = [
     Fault {
         name: "a pattern before a fault of syntax",
         sheet: b"%token A /a/\n?\n",
-        said: b"sheet form not built\n",
+        said: b"sheet fault 2: line 2: syntax\n",
     },
     Fault {
         name: "a literal with a line feed",

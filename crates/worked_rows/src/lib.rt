@@ -20,6 +20,8 @@ mod memory;
 #[cfg(test)]
 mod names;
 #[cfg(test)]
+mod pattern_sheets;
+#[cfg(test)]
 mod patterns;
 #[cfg(test)]
 mod program;

@@ -195,9 +195,9 @@ static TEXTS: [Row; 11] = [
 
 static SHEETS: [Row; 13] = [
     Row {
-        name: "a pattern, alternatives and templates",
-        sheet: b"%token ID /[a-z]+/\n%%\ns : 'if' { \"K\" } | ID { \"I\" $1 } ;\n",
-        err: b"sheet form not built\n",
+        name: "a pattern that has the empty text",
+        sheet: b"%token ID /[a-z]*/\n%%\ns : 'if' { \"K\" } | ID { \"I\" $1 } ;\n",
+        err: b"sheet fault 4: line 1: pattern matches the empty text\n",
         ..REFUSED
     },
     Row {

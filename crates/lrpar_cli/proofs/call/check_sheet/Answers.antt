@@ -20,12 +20,12 @@ returns-in-Err-clause-words g c e = no_words_stop _ _ _ _ _ c.in-Err.stop c.say_
 pub returns-in-Ok-check_names-clause-ending : goal.returns-in-Ok-check_names-clause-ending
 returns-in-Ok-check_names-clause-ending g c words form =
     let read = c.in-Ok.ensures.accepted in
-    ending_printing _ _ words _ _ _ _ form read.0 c.in-Ok.sheet c.write_layout.result read.1 read.2 c.in-Ok-check_names.ensures.useful c.write_layout.ensures.writing
+    ending_printing _ _ words _ _ _ _ form read.0 c.in-Ok.accepted.sheet c.write_layout.result read.1 read.2 c.in-Ok-check_names.ensures.useful c.write_layout.ensures.writing
 
 pub returns-clause-ending : goal.returns-clause-ending
 returns-clause-ending g c words form =
     let read = c.in-Ok.ensures.accepted in
-    ending_at_name _ _ words _ _ _ _ form read.0 c.in-Ok.sheet read.1 read.2 c.in-Err-check_names.stop c.say_stop-in-Err-check_names.result c.in-Err-check_names.ensures.refused (Appends-nil _) (λ e. nothing_grown g.E.Sink.taken _ _ (c.say_stop-in-Err-check_names.ensures.unsaid e)) c.say_stop-in-Err-check_names.ensures.said
+    ending_at_name _ _ words _ _ _ _ form read.0 c.in-Ok.accepted.sheet read.1 read.2 c.in-Err-check_names.stop c.say_stop-in-Err-check_names.result c.in-Err-check_names.ensures.refused (Appends-nil _) (λ e. nothing_grown g.E.Sink.taken _ _ (c.say_stop-in-Err-check_names.ensures.unsaid e)) c.say_stop-in-Err-check_names.ensures.said
 
 pub returns-clause-words : goal.returns-clause-words
 returns-clause-words g c e = no_words_stop _ _ _ _ _ c.in-Err-check_names.stop c.say_stop-in-Err-check_names.result c.say_stop-in-Err-check_names.ensures.said e

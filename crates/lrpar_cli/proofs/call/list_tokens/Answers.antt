@@ -18,7 +18,7 @@ returns-in-Err-clause-ending g c words form =
 pub returns-in-Err-read_text-clause-ending : goal.returns-in-Err-read_text-clause-ending
 returns-in-Err-read_text-clause-ending g c words form =
     let read = c.in-Ok.ensures.accepted in
-    ending_at_text _ _ words _ _ _ _ _ form read.0 c.in-Ok.sheet read.1 read.2 c.in-Err-read_text.stop c.say_stop-in-Err-read_text.result
+    ending_at_text _ _ words _ _ _ _ _ form read.0 c.in-Ok.accepted.sheet read.1 read.2 c.in-Err-read_text.stop c.say_stop-in-Err-read_text.result
     (λ e. rw c.in-Ok.ensures.stands at (c.in-Err-read_text.ensures.long (ap Err e)))
     (λ what e. c.in-Err-read_text.ensures.sheet what (ap Err e))
     (λ e. rose_before _ _ _ c.in-Ok.ensures.later (c.in-Err-read_text.ensures.rose (ap Err e)))
@@ -31,7 +31,7 @@ pub returns-clause-ending : goal.returns-clause-ending
 returns-clause-ending g c words form =
     let read = c.in-Ok.ensures.accepted in
     let whole = c.in-Ok-read_text.ensures.whole in
-    ending_listing _ _ words _ _ _ _ _ form read.0 c.in-Ok-read_text.text.items c.in-Ok.sheet c.write_tokens.result read.1 read.2
+    ending_listing _ _ words _ _ _ _ _ form read.0 c.in-Ok-read_text.text.items c.in-Ok.accepted.sheet c.write_tokens.result read.1 read.2
     (rw c.in-Ok.ensures.stands at whole.0)
     whole.1
     (rw c.deref.ensures.value at c.write_tokens.ensures.listing)

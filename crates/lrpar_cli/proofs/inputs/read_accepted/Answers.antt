@@ -1,5 +1,4 @@
-use Rattle.std.proofs.Common.{rules, refl, ◌≡◌}
-use Rattle.lrpar_cli.proofs.InputLemmas.{long_sheet, refused_bytes}
+use Rattle.lrpar_cli.proofs.InputLemmas.{long_sheet}
 use Rattle.lrpar_cli.proofs.inputs.read_accepted.Goals as goal
 
 pub returns-in-Ok-TooLong-clause-refused : goal.returns-in-Ok-TooLong-clause-refused
