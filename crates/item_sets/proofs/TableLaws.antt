@@ -1,14 +1,17 @@
 -- What the tables of a collection say of lists and items.
-use Rattle.std.proofs.Common.{◌≡◌, ℕ, ◌<◌, IsTrue, List, [], ◌∷◌, ◌++◌, slice_get, Option, Some, None, refl, sym, ◌∙◌, arith}
-use Rattle.std.proofs.lemmas.Option.{none-some}
+use Rattle.std.proofs.Common.{◌≡◌, ℕ, ◌<◌, IsTrue, List, [], ◌∷◌, ◌++◌, slice_get, Option, Some, None, refl, sym, subst, ◌∙◌, arith}
+use Rattle.std.proofs.lemmas.Option.{none-some, get_or_from_slice_get}
 use Rattle.grammar_data.specs.declared.rule.Sym.{Sym}
 use Rattle.grammar_data.specs.Grammar.{Grammar}
 use Rattle.grammar_theory.specs.Rules.{IsInRange}
 use Rattle.item_theory.specs.Items.{Item}
 use Rattle.item_theory.specs.Chains.{Moves}
 use Rattle.item_theory.proofs.StateLaws.{step_law}
-use Rattle.item_theory.proofs.CollectionLaws.{collection_items_law}
-use Rattle.item_sets.specs.Tables.{Tables, state_count, has_item, step_in, IsCollectionOf, StateItemsLaw, NoStepLaw}
+use Rattle.item_theory.proofs.CollectionLaws.{collection_items_law, collection_once_law}
+use Rattle.item_sets.specs.Tables.{Tables, state_count, items_in, has_item, step_in, IsCollectionOf, StateItemsLaw, NoStepLaw, OneCollectionLaw}
+use Rattle.item_sets.specs.Entries.{AreEntries}
+use Rattle.item_sets.proofs.LayoutLemmas.{rising_of}
+use Rattle.item_sets.proofs.SameEntries.{same_entries}
 use Rattle.item_sets.proofs.StateFinding.{get_at}
 
 pub state_items_law : StateItemsLaw
@@ -36,3 +39,19 @@ module _ (g : Grammar) (range : IsInRange g) (t : Tables) (is : IsCollectionOf g
 
 pub no_step_law : NoStepLaw
 no_step_law g range t is q x less = (stays g range t is q x less, λ none. no_step g range t is q x less (step_in t q x) refl none)
+
+entries_of : (g : Grammar) (t : Tables) → IsCollectionOf g t → (q : ℕ) → q < state_count t → AreEntries g (items_in t q)
+entries_of g t is q less =
+    let at = get_at t.states q less in
+    subst (λ es. AreEntries g es) (sym (get_or_from_slice_get t.states q at.0 [] at.1)) (is.entries q at.0 at.1)
+
+same_items : (g : Grammar) (c d : Tables) → IsCollectionOf g c → IsCollectionOf g d → (q : ℕ) → q < state_count c → q < state_count d → ((i : Item) → has_item c q i ≡ has_item d q i) → items_in c q ≡ items_in d q
+same_items g c d c_is d_is q less other_less same =
+    let mine = entries_of g c c_is q less in
+    let other = entries_of g d d_is q other_less in
+    same_entries g (items_in c q) (items_in d q) (rising_of _ mine.rising) (rising_of _ other.rising) mine.each other.each (λ i has. sym (same i) ∙ has) (λ i has. same i ∙ has)
+
+pub one_collection_law : OneCollectionLaw
+one_collection_law g c d c_is d_is =
+    let once = collection_once_law g (state_count c) (state_count d) (has_item c) (has_item d) (step_in c) (step_in d) c_is.collection d_is.collection in
+    (once.0, λ q less. (same_items g c d c_is d_is q less (let e = once.0 in omega (arith, e, less)) (once.1 q less).0, (once.1 q less).1))

@@ -57,3 +57,7 @@ StateItemsLaw = (g : Grammar) → IsInRange g → (t : Tables) → IsCollectionO
 -- there is no step from a state along a symbol exactly where no item of the state has its dot before the symbol
 abbrev pub NoStepLaw : Type 0
 NoStepLaw = (g : Grammar) → IsInRange g → (t : Tables) → IsCollectionOf g t → (q : ℕ) (x : Sym) → q < state_count t → (step_in t q x ≡ None) ↔ ((i j : Item) → IsTrue (has_item t q i) → Moves g x i j → ⊥)
+
+-- a grammar has one collection: as many states, and in each the same entries and the same steps
+abbrev pub OneCollectionLaw : Type 0
+OneCollectionLaw = (g : Grammar) (c d : Tables) → IsCollectionOf g c → IsCollectionOf g d → (state_count c ≡ state_count d) × ((q : ℕ) → q < state_count c → (items_in c q ≡ items_in d q) × ((x : Sym) → step_in c q x ≡ step_in d q x))

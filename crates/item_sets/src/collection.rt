@@ -62,7 +62,8 @@ impl Collection {
 
     /// How many states there are; they are numbered from 0.
     pub fn states(&self) -> u32
-        ensures { result ≡ state_count self.now }
+        ensures states { result ≡ state_count self.now }
+        ensures few { result ≤ 10000 }
     {
         self.states.len() as u32
     }

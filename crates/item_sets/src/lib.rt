@@ -18,4 +18,4 @@ pub use building::collect;
 pub use collection::Collection;
 pub use entry::Entry;
 pub use fault::CollectFault;
-pub use laws::table_laws;
+pub use laws::{one_collection_law, table_laws};

@@ -1,6 +1,6 @@
 ghost use Rattle.std.specs.Prelude.{◌≡◌, ◌≢◌, ◌↔◌, ℕ, ◌+◌, ◌<◌, ◌≤◌, ◌==◌, ◌&&◌, if◌then◌else◌, IsTrue, IfOk, Some, length, slice_get, All};
 ghost use Rattle.std.specs.Option.{option_map};
-ghost use Rattle.lr_base.specs.IsGrammar.{IsSymbolOf};
+ghost use Rattle.lr_base.specs.IsGrammar.{IsGrammar, IsSymbolOf};
 ghost use Rattle.table_data.specs.declared.act.Act.TheVariants.{Error};
 ghost use Rattle.table_data.specs.Tables.{IsActOf, IsGotoOf, act_in, goto_in};
 ghost use Rattle.lr_machine.specs.IsTables.{AreBlank};
@@ -52,10 +52,11 @@ impl Model for Tables {
 
 impl Tables {
     /// Tables with the rules of the grammar and so many states, at most 10,000. Each action is an error, and there is no
-    /// goto.
+    /// goto. `grammar` says what holds of every grammar, for whoever fills them.
     pub fn blank(alloc: Global, grammar: &Grammar, states: u32) -> Result<Tables, NoMemory>
         requires { states ≤ 10000 }
-        ensures { IfOk result (λ tables. AreBlank grammar.now states tables) }
+        ensures blank { IfOk result (λ tables. AreBlank grammar.now states tables) }
+        ensures grammar { IsGrammar grammar.now }
     {
         let tokens = grammar.tokens();
         let names = grammar.names();

@@ -66,11 +66,11 @@ token_below bound a [] after below = below.0
 token_below bound a (Token b ∷ before) after below = token_below bound a before after below.1
 token_below bound a (_ ∷ before) after below = token_below bound a before after below
 
-does_within : (g : Grammar) → IsInRange g → (xs : List Sym) (i : Item) (a : ℕ) (deed : Deed) → IsValid g xs i → Does g i a deed → a ≤ end_mark g
-does_within g range xs i a deed valid (shifts {before = before} {after = after} dotted) =
+pub does_within : (g : Grammar) → IsInRange g → (xs : List Sym) (i : Item) (a : ℕ) (deed : Deed) → IsValid g xs i → Does g i a deed → a ≤ end_mark g
+does_within g range xs i a deed known (shifts {before = before} {after = after} dotted) =
     let less : a < g.tokens = token_below g.tokens a before after (right_tokens g range dotted.rule) in omega arith
-does_within g range xs i a deed valid (reduces dotted own at is) = let within = (item_range_law g range xs i valid).1 in omega arith
-does_within g range xs i a deed valid (accepts dotted last at) = omega arith
+does_within g range xs i a deed known (reduces dotted own at is) = let within = (item_range_law g range xs i known).1 in omega arith
+does_within g range xs i a deed known (accepts dotted last at) = omega arith
 
 pub no_conflict : NoConflictLaw
 no_conflict g range states has step t collection canonical h = at_state (has_clash g states has step collection h)

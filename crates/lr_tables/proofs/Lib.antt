@@ -1,0 +1,4 @@
+pub mod DoingLemmas
+pub mod LeastLemmas
+pub mod PutLemmas
+pub mod RowLemmas

@@ -1,0 +1,4 @@
+pub mod Doings
+pub mod Filling
+pub mod Clashing
+pub mod Building

@@ -1,0 +1,13 @@
+//! The canonical LR(1) tables of a grammar, from its collection, or the first conflict.
+#![tactic(auto)]
+
+mod building;
+mod clashes;
+mod conflict;
+mod doing;
+mod fault;
+mod filling;
+
+pub use building::build;
+pub use conflict::{Conflict, Item};
+pub use fault::BuildFault;
