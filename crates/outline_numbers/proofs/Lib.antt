@@ -7,3 +7,4 @@ pub mod MemberLemmas
 pub mod OutlineLemmas
 pub mod GrammarLemmas
 pub mod SheetLemmas
+pub mod SheetGrammar

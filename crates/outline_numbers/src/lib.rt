@@ -2,6 +2,7 @@
 #![tactic(auto)]
 
 mod copies;
+mod laws;
 mod limits;
 mod numbering;
 mod numbers;
@@ -10,4 +11,5 @@ mod start;
 mod vocabulary;
 mod words;
 
+pub use laws::sheet_grammar_law;
 pub use numbering::{Numbered, number_outline};

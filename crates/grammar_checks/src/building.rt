@@ -1,0 +1,75 @@
+ghost use Rattle.std.specs.Prelude.{IfErr, IfOk};
+ghost use Rattle.first_sets.specs.NameFacts.{AreFirsts};
+ghost use Rattle.first_sets.specs.UselessNames.{IsUseful};
+ghost use Rattle.item_sets.specs.Tables.{IsCollectionOf};
+ghost use Rattle.item_theory.specs.Collections.{HasMoreStates};
+ghost use Rattle.grammar_checks.specs.Building.{IsBuilt, IsFaultOf};
+
+use crate::fault::GrammarFault;
+use first_sets::{Firsts, UselessFault, analyse};
+use item_sets::{CollectFault, Collection, collect};
+use lr_base::Grammar;
+use lr_machine::Tables;
+use lr_tables::{BuildFault, build};
+use std::alloc::Global;
+
+/// The canonical collection of a grammar, and its tables.
+#[derive(Debug, Drop)]
+pub struct Built {
+    pub collection: Collection,
+    pub tables: Tables,
+}
+
+/// What is known of the names of a grammar, where all are useful.
+fn firsts_of(alloc: Global, grammar: &Grammar) -> Result<Firsts, GrammarFault>
+    ensures useful { IfOk result (λ _. IsUseful grammar.now) }
+    ensures facts { IfOk result (λ firsts. AreFirsts grammar.now firsts) }
+    ensures fault { IfErr result (λ fault. IsFaultOf grammar.now fault) }
+{
+    match analyse(alloc, grammar) {
+        Ok(firsts) => Ok(firsts),
+        Err(UselessFault::NoMemory) => Err(GrammarFault::NoMemory),
+        Err(fault) => Err(GrammarFault::Useless(fault)),
+    }
+}
+
+/// The collection of a grammar whose names are all useful.
+fn collection_of(
+    alloc: Global,
+    grammar: &Grammar,
+    firsts: &Firsts,
+) -> Result<Collection, GrammarFault>
+    requires useful { IsUseful grammar.now }
+    requires facts { AreFirsts grammar.now firsts.now }
+    ensures collection { IfOk result (λ collection. IsCollectionOf grammar.now collection) }
+    ensures few { IfOk result (λ _. ¬ (HasMoreStates grammar.now 10000)) }
+    ensures fault { IfErr result (λ fault. IsFaultOf grammar.now fault) }
+{
+    match collect(alloc, grammar, firsts) {
+        Ok(collection) => Ok(collection),
+        Err(CollectFault::TooManyStates) => Err(GrammarFault::TooManyStates),
+        Err(CollectFault::NoMemory) => Err(GrammarFault::NoMemory),
+    }
+}
+
+/// The canonical collection of a grammar and its tables; or its first fault, in this order: the least name that derives no
+/// token list, the least that the start doesn't reach, the least whose least empty tree has more than 1,000 inner nodes;
+/// more than 10,000 states; the first conflict.
+pub fn build_grammar(alloc: Global, grammar: &Grammar) -> Result<Built, GrammarFault>
+    ensures built { IfOk result (λ built. IsBuilt grammar.now built) }
+    ensures fault { IfErr result (λ fault. IsFaultOf grammar.now fault) }
+{
+    let firsts = match firsts_of(alloc, grammar) {
+        Ok(firsts) => firsts,
+        Err(fault) => return Err(fault),
+    };
+    let collection = match collection_of(alloc, grammar, &firsts) {
+        Ok(collection) => collection,
+        Err(fault) => return Err(fault),
+    };
+    match build(alloc, grammar, &collection) {
+        Ok(tables) => Ok(Built { collection, tables }),
+        Err(BuildFault::Conflict(conflict)) => Err(GrammarFault::Conflict(conflict)),
+        Err(BuildFault::NoMemory) => Err(GrammarFault::NoMemory),
+    }
+}

@@ -1,0 +1,11 @@
+//! A grammar's canonical collection and tables, or the first of the faults that keep it from having them: a useless name,
+//! too many states, a conflict.
+#![tactic(auto)]
+
+mod building;
+mod fault;
+mod laws;
+
+pub use building::{Built, build_grammar};
+pub use fault::GrammarFault;
+pub use laws::grammar_fault_laws;

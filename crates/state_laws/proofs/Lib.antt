@@ -1,0 +1,3 @@
+pub mod RefutedLemmas
+pub mod FindingLemmas
+pub mod FirstLemmas
