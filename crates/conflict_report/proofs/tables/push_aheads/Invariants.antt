@@ -1,0 +1,9 @@
+use Rattle.std.proofs.Common.{◌≡◌, ◌++◌, map}
+use Rattle.std.specs.Prelude.{filter}
+use Rattle.std.specs.List.{flat_map, range_with_len}
+use Rattle.lr_base.specs.TokenSet.{has_token}
+use Rattle.conflict_report.specs.ItemTexts.{behind_space, token_text}
+use Rattle.conflict_report.proofs.tables.push_aheads.Given as goal
+
+abbrev pub invariant-loop-token : goal.invariant-loop-token
+invariant-loop-token l = l.text.items ≡ l.fn.text.items ++ flat_map behind_space (map (token_text l.sheet) (filter (has_token l.aheads) (range_with_len 0 l.token)))

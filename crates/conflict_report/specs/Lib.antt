@@ -1,0 +1,4 @@
+pub mod ItemTexts
+pub mod TableTexts
+pub mod Belonging
+pub mod SameTexts
