@@ -14,16 +14,17 @@ use Rattle.sheet_theory.specs.ScanOrder.{scanning_of}
 use Rattle.sheet_theory.specs.TokenList.{token_list, listed_tokens}
 use Rattle.lrpar_cli.specs.declared.status.Status.{Status}
 use Rattle.lrpar_cli.specs.declared.status.Status.TheVariants.{Done, Words, Sheet as refused_sheet, TextTooLong, ReadFault, WriteFault}
-use Rattle.lrpar_cli.specs.Answer.{Accepts, Answers, sheet_refused, text_too_long, tokens_listed, check_refused, name_refused, layout_printed, Ends, bad_words, by_command, text_limit, bad_words_text, long_text_text, read_fault_text, write_fault_text}
-use Rattle.outline_theory.specs.Layout.{layout}
-use Rattle.first_sets.specs.UselessNames.{IsUseful}
+use Rattle.lrpar_cli.specs.Answer.{Accepts, Answers, sheet_refused, text_too_long, tokens_listed, print_refused, grammar_refused, output_printed, IsPrinted, Ends, bad_words, by_command, text_limit, bad_words_text, long_text_text, read_fault_text, write_fault_text}
+use Rattle.grammar_checks.specs.Building.{IsBuildable}
 use Rattle.lrpar_cli.proofs.FaultLemmas.{not_refused}
-use Rattle.lrpar_cli.specs.Endings.{Stands, AreRead, no_more_read, one_read, AreReadFor, IsDue, IsReadFault, due_said, fault_said, Fails, Fits, HaveRoom, AreServed, StopsEarly, IsSilent, Sinks, IsWriteFault, at_out, at_err, nothing_taken, some_taken, IsEnding, answered, read_fault, write_fault, no_memory, IsSpoken, spoken, unspoken, IsListing, listed_whole, listed_in_part, listed_cut, not_listed, IsWriting, written_whole, written_in_part, not_written}
-use Rattle.lrpar_cli.specs.Inputs.{IsRead, IsRefusedSheet, IsNameStop, IsLongText}
+use Rattle.lrpar_cli.specs.Endings.{Stands, AreRead, no_more_read, one_read, AreReadFor, IsDue, IsReadFault, due_said, fault_said, Fails, Fits, HaveRoom, AreServed, StopsEarly, IsSilent, Sinks, IsWriteFault, at_out, at_err, nothing_taken, some_taken, IsEnding, answered, read_fault, write_fault, no_memory, IsSpoken, spoken, unspoken, IsListing, listed_whole, listed_in_part, listed_cut, not_listed, IsWriting, written_whole, written_in_part, written_cut, not_written, IsPrinting}
+use Rattle.lrpar_cli.specs.Inputs.{IsRead, IsRefusedSheet, IsGrammarStop, IsLongText}
 use Rattle.lrpar_cli.specs.Stops.{IsStopSaid}
 use Rattle.lrpar_cli.specs.declared.inputs.Stop.{Stop}
 use Rattle.lrpar_cli.specs.declared.inputs.Stop.TheVariants.{Sheet as sheet_stop, TextTooLong as long_stop, ReadFault as read_stop, NoMemory as memory_stop}
-use Rattle.lrpar_cli.specs.Words.{Command, Tokens, Check, HasForm, tokens_form, check_form, IsBadWords, names_read}
+use Rattle.lrpar_cli.specs.declared.words.Output.{Output}
+use Rattle.lrpar_cli.specs.declared.words.Output.TheVariants.{Layout, Tables}
+use Rattle.lrpar_cli.specs.Words.{Command, Tokens, Print, HasForm, tokens_form, print_form, word_of, IsBadWords, names_read}
 
 -- what is printed by the names and the lines is the sheet's list of the text
 pub listed_is : (sheet : Sheet) (text : List ℕ) (names : List (List ℕ)) (starts : List ℕ) (found tokens : List Token) → names ≡ token_names sheet → starts ≡ line_starts text → found ≡ tokens
@@ -49,12 +50,23 @@ not_full (Some b) None room f g text fits fails = absurd fails.part.grown
 not_full (Some b) (Some a) room f g text fits fails =
     omega (arith, fits, fails.full, fails.part.short, ap length fails.part.grown, length-append b (take fails.part.count text), length-take fails.part.count text)
 
+-- a word asks for one output at the most
+output_once : (command : List ℕ) (o p : Output) → command ≡ word_of o → command ≡ word_of p → o ≡ p
+output_once command Layout Layout x y = refl
+output_once command Layout Tables x y = let both : word_of Layout ≡ word_of Tables = sym x ∙ y in absurd (cc)
+output_once command Tables Layout x y = let both : word_of Layout ≡ word_of Tables = sym y ∙ x in absurd (cc)
+output_once command Tables Tables x y = refl
+
 -- the words are of one form at the most
 pub form_unique : (words : List (List ℕ)) (c d : Command) → HasForm words c → HasForm words d → c ≡ d
 form_unique words c d (tokens_form p _) (tokens_form q _) = cc
-form_unique words c d (tokens_form p _) (check_form q _) = absurd (omega (arith, ap length p, ap length q))
-form_unique words c d (check_form p _) (tokens_form q _) = absurd (omega (arith, ap length p, ap length q))
-form_unique words c d (check_form p _) (check_form q _) = cc
+form_unique words c d (tokens_form p _) (print_form q _) = absurd (omega (arith, ap length p, ap length q))
+form_unique words c d (print_form p _) (tokens_form q _) = absurd (omega (arith, ap length p, ap length q))
+form_unique words c d (print_form {output = o} {command = one} {sheet = sheet} p of) (print_form {output = other_output} {command = other} {sheet = other_sheet} q other_of) =
+    let commands : other ≡ one = cc in
+    let sheets : sheet ≡ other_sheet = cc in
+    let outputs : o ≡ other_output = output_once one o other_output of.command_is (sym commands ∙ other_of.command_is) in
+    ap (λ x. Print x sheet) outputs ∙ ap (Print other_output) sheets
 
 -- what was read for one form was read for the words
 pub read_for : (stands : Stands) (words : List (List ℕ)) (c : Command) (inputs : List (List ℕ)) → HasForm words c → AreRead stands (names_read c) inputs → AreReadFor stands words inputs
@@ -156,60 +168,65 @@ module _ (stands : Stands) (served words : List (List ℕ)) (shelf_before shelf_
         no_memory (some_taken (due_after_text bytes text read read_text (tokens_listed tokens accepted short are refl)) front) kept
     ending_listing bytes text sheet result read accepted read_text short (not_listed out_kept err_kept) = no_memory (nothing_taken out_kept) err_kept
 
-  module _ (sheet_name : List ℕ) (form : HasForm words (Check sheet_name)) where
-    due_after_check : {status : Status} {out err : List ℕ} (bytes : List ℕ) → IsRead (stands sheet_name) bytes → Answers (Check sheet_name) (bytes ∷ []) status out err → IsDue stands words status out err
-    due_after_check bytes read answer = record {
+  module _ (output : Output) (sheet_name : List ℕ) (form : HasForm words (Print output sheet_name)) where
+    due_after_print : {status : Status} {out err : List ℕ} (bytes : List ℕ) → IsRead (stands sheet_name) bytes → Answers (Print output sheet_name) (bytes ∷ []) status out err → IsDue stands words status out err
+    due_after_print bytes read answer = record {
       inputs = bytes ∷ [];
-      read = read_for stands words (Check sheet_name) (bytes ∷ []) form (one_read read no_more_read);
+      read = read_for stands words (Print output sheet_name) (bytes ∷ []) form (one_read read no_more_read);
       ends = by_command form answer;
     }
 
     -- nothing is due before the sheet was read
-    nothing_checked : (status : Status) (out err : List ℕ) → ¬ (Answers (Check sheet_name) [] status out err)
-    nothing_checked status out err h = elim h [ ]
+    nothing_printed : (status : Status) (out err : List ℕ) → ¬ (Answers (Print output sheet_name) [] status out err)
+    nothing_printed status out err h = elim h [ ]
 
     -- the call stops at the sheet
-    pub ending_at_check : (stop : Stop) (result : Status) → ((what : List ℕ) → stop ≡ sheet_stop what → IsRefusedSheet (stands sheet_name) what) → stop ≢ long_stop
+    pub ending_at_print : (stop : Stop) (result : Status) → ((what : List ℕ) → stop ≡ sheet_stop what → IsRefusedSheet (stands sheet_name) what) → stop ≢ long_stop
         → (stop ≡ read_stop → Rose shelf_before shelf_after) → (stop ≡ read_stop → is_listed served sheet_name ≡ false)
         → Appends sinks.out_before sinks.out_after [] → (IsSilent result → Appends sinks.err_before sinks.err_after [])
         → IsStopSaid sinks.err_before sinks.err_after sinks.err_room sinks.err_faults_before sinks.err_faults_after stop result → IsEnding stands served words shelf_before shelf_after sinks result
-    ending_at_check (sheet_stop what) result refused long rose unserved kept unsaid said =
+    ending_at_print (sheet_stop what) result refused long rose unserved kept unsaid said =
         let r = refused what refl in
-        ending_said refused_sheet result what (due_after_check r.bytes r.read (check_refused r.refused)) kept said
-    ending_at_check long_stop result refused long rose unserved kept unsaid said = absurd (long refl)
-    ending_at_check read_stop result refused long rose unserved kept unsaid said =
+        ending_said refused_sheet result what (due_after_print r.bytes r.read (print_refused r.refused)) kept said
+    ending_at_print long_stop result refused long rose unserved kept unsaid said = absurd (long refl)
+    ending_at_print read_stop result refused long rose unserved kept unsaid said =
         ending_fault result (record {
-          command = Check sheet_name;
+          command = Print output sheet_name;
           form = form;
           before = [];
           read = no_more_read;
-          pending = nothing_checked;
+          pending = nothing_printed;
           name = sheet_name;
           next = refl;
           unserved = unserved refl;
           rose = rose refl;
         }) kept said
-    ending_at_check memory_stop result refused long rose unserved kept unsaid said =
+    ending_at_print memory_stop result refused long rose unserved kept unsaid said =
         subst (IsEnding stands served words shelf_before shelf_after sinks) (sym said) (no_memory (nothing_taken kept) (unsaid (subst IsSilent (sym said) tt)))
 
-    -- the call stops at a useless name
-    pub ending_at_name : (bytes : List ℕ) (sheet : Sheet) → IsRead (stands sheet_name) bytes → Accepts bytes sheet → (stop : Stop) (result : Status) → IsNameStop sheet stop
+    -- the call stops at the grammar
+    pub ending_at_grammar : (bytes : List ℕ) (sheet : Sheet) → IsRead (stands sheet_name) bytes → Accepts bytes sheet → (stop : Stop) (result : Status) → IsGrammarStop sheet stop
         → Appends sinks.out_before sinks.out_after [] → (IsSilent result → Appends sinks.err_before sinks.err_after [])
         → IsStopSaid sinks.err_before sinks.err_after sinks.err_room sinks.err_faults_before sinks.err_faults_after stop result → IsEnding stands served words shelf_before shelf_after sinks result
-    ending_at_name bytes sheet read accepted (sheet_stop what) result useless kept unsaid said =
-        ending_said refused_sheet result what (due_after_check bytes read (name_refused accepted useless)) kept said
-    ending_at_name bytes sheet read accepted long_stop result useless kept unsaid said = absurd useless
-    ending_at_name bytes sheet read accepted read_stop result useless kept unsaid said = absurd useless
-    ending_at_name bytes sheet read accepted memory_stop result useless kept unsaid said =
+    ending_at_grammar bytes sheet read accepted (sheet_stop what) result none kept unsaid said =
+        ending_said refused_sheet result what (due_after_print bytes read (grammar_refused accepted none)) kept said
+    ending_at_grammar bytes sheet read accepted long_stop result none kept unsaid said = absurd none
+    ending_at_grammar bytes sheet read accepted read_stop result none kept unsaid said = absurd none
+    ending_at_grammar bytes sheet read accepted memory_stop result none kept unsaid said =
         subst (IsEnding stands served words shelf_before shelf_after sinks) (sym said) (no_memory (nothing_taken kept) (unsaid (subst IsSilent (sym said) tt)))
 
     -- the call comes to its output
-    pub ending_printing : (bytes : List ℕ) (sheet : Sheet) (result : Status) → IsRead (stands sheet_name) bytes → Accepts bytes sheet → IsUseful sheet.grammar → IsWriting (layout sheet) sinks result → IsEnding stands served words shelf_before shelf_after sinks result
-    ending_printing bytes sheet result read accepted useful (written_whole grown kept) =
-        answered (record { out = layout sheet; err = []; due = due_after_check bytes read (layout_printed accepted useful refl); out_grown = grown; err_grown = kept })
-    ending_printing bytes sheet result read accepted useful (written_in_part fails said) =
-        write_fault (at_out (due_after_check bytes read (layout_printed accepted useful refl)) fails said)
-    ending_printing bytes sheet result read accepted useful (not_written out_kept err_kept) = no_memory (nothing_taken out_kept) err_kept
+    ending_writing : (bytes text : List ℕ) (sheet : Sheet) (result : Status) → IsRead (stands sheet_name) bytes → Accepts bytes sheet → IsBuildable sheet.grammar → IsPrinted output sheet text → IsWriting text sinks result → IsEnding stands served words shelf_before shelf_after sinks result
+    ending_writing bytes text sheet result read accepted buildable is (written_whole grown kept) =
+        answered (record { out = text; err = []; due = due_after_print bytes read (output_printed accepted buildable is); out_grown = grown; err_grown = kept })
+    ending_writing bytes text sheet result read accepted buildable is (written_in_part fails said) =
+        write_fault (at_out (due_after_print bytes read (output_printed accepted buildable is)) fails said)
+    ending_writing bytes text sheet result read accepted buildable is (written_cut front kept) =
+        no_memory (some_taken (due_after_print bytes read (output_printed accepted buildable is)) front) kept
+    ending_writing bytes text sheet result read accepted buildable is (not_written out_kept err_kept) = no_memory (nothing_taken out_kept) err_kept
+
+    pub ending_printing : (bytes : List ℕ) (sheet : Sheet) (result : Status) → IsRead (stands sheet_name) bytes → Accepts bytes sheet → IsBuildable sheet.grammar → IsPrinting output sheet sinks result → IsEnding stands served words shelf_before shelf_after sinks result
+    ending_printing bytes sheet result read accepted buildable printing = ending_writing bytes printing.text sheet result read accepted buildable printing.is printing.writing
 
 -- where every name that a command reads is served, no reading failed
 pub served_fault : (stands : Stands) (served words : List (List ℕ)) (f g : ℕ) (c : Command) → HasForm words c → AreServed served c
@@ -292,6 +309,7 @@ listing_late sheet text sinks status (not_listed out_kept err_kept) early = earl
 pub writing_late : (text : List ℕ) (sinks : Sinks) (status : Status) → IsWriting text sinks status → ¬ (StopsEarly status)
 writing_late text sinks status (written_whole grown kept) early = early
 writing_late text sinks status (written_in_part fails said) early = early
+writing_late text sinks status (written_cut front kept) early = early
 writing_late text sinks status (not_written out_kept err_kept) early = early
 
 -- the output failed, and that was said

@@ -4,4 +4,4 @@ pub mod BlockLemmas
 pub mod CallLemmas
 pub mod InputLemmas
 pub mod WordLemmas
-pub mod UselessLemmas
+pub mod TableListLemmas

@@ -12,13 +12,18 @@ use Rattle.outline_data.specs.declared.fault.SheetFault.{SheetFault}
 use Rattle.outline_data.specs.declared.fault.SheetFault.TheVariants.{Limit}
 use Rattle.outline_theory.specs.Layout.{layout}
 use Rattle.outline_theory.specs.Reading.{Reads, IsFirstFault}
-use Rattle.first_sets.specs.declared.fault.UselessFault.{UselessFault}
-use Rattle.first_sets.specs.declared.fault.UselessFault.TheVariants.{NoMemory as exhausted}
-use Rattle.first_sets.specs.UselessNames.{IsUseful, IsDue}
+use Rattle.item_sets.specs.Tables.{Tables as StateTables}
+use Rattle.table_data.specs.Tables.{Tables as TableParts}
+use Rattle.grammar_checks.specs.declared.fault.GrammarFault.{GrammarFault}
+use Rattle.grammar_checks.specs.declared.fault.GrammarFault.TheVariants.{NoMemory as spent}
+use Rattle.grammar_checks.specs.Building.{IsBuildable, AreBuiltOf, IsFaultOf}
+use Rattle.conflict_report.specs.TableTexts.{tables_text}
 use Rattle.lrpar_cli.specs.declared.status.Status.{Status}
 use Rattle.lrpar_cli.specs.declared.status.Status.TheVariants.{Done, Words, Sheet as refused_sheet, TextTooLong}
-use Rattle.lrpar_cli.specs.Words.{Command, Tokens, Check, HasForm, IsBadWords}
-use Rattle.lrpar_cli.specs.FaultTexts.{fault_text, useless_text}
+use Rattle.lrpar_cli.specs.declared.words.Output.{Output}
+use Rattle.lrpar_cli.specs.declared.words.Output.TheVariants.{Layout, Tables}
+use Rattle.lrpar_cli.specs.Words.{Command, Tokens, Print, HasForm, IsBadWords}
+use Rattle.lrpar_cli.specs.FaultTexts.{fault_text, grammar_text}
 
 -- the most bytes that a text may have
 abbrev pub text_limit : ℕ
@@ -60,21 +65,33 @@ pub record Refuses (bytes said : List ℕ) : Type 0 where
   pub found : IsFault bytes fault
   pub is : said ≡ fault_text fault
 
--- a name of the sheet is useless, and this is said of the first
-pub record IsUseless (sheet : Sheet) (said : List ℕ) : Type 0 where
-  pub fault : UselessFault
-  pub due : IsDue sheet.grammar fault
-  pub name : fault ≢ exhausted
-  pub is : said ≡ useless_text sheet fault
+-- the sheet's grammar has no tables, and this is said of its first fault
+pub record HasNoTables (sheet : Sheet) (said : List ℕ) : Type 0 where
+  pub fault : GrammarFault
+  pub of : IsFaultOf sheet.grammar fault
+  pub found : fault ≢ spent
+  pub is : said ≡ grammar_text sheet fault
+
+-- the text of the grammar's canonical collection and tables
+pub record IsTablesText (sheet : Sheet) (printed : List ℕ) : Type 0 where
+  pub collection : StateTables
+  pub tables : TableParts
+  pub built : AreBuiltOf sheet.grammar collection tables
+  pub is : printed ≡ tables_text sheet collection tables
+
+-- what is printed of a sheet whose grammar has tables
+abbrev pub IsPrinted : Output → Sheet → List ℕ → Type 0
+IsPrinted Layout sheet printed = printed ≡ layout sheet
+IsPrinted Tables sheet printed = IsTablesText sheet printed
 
 -- what a command answers where these inputs had to be read, under the first of its names in their order
 pub data Answers : Command → List (List ℕ) → Status → List ℕ → List ℕ → Type 0 where
   sheet_refused : {sheet_name text_name bytes said : List ℕ} → Refuses bytes said → Answers (Tokens sheet_name text_name) (bytes ∷ []) refused_sheet [] said
   text_too_long : {sheet_name text_name bytes text : List ℕ} {sheet : Sheet} → Accepts bytes sheet → text_limit < length text → Answers (Tokens sheet_name text_name) (bytes ∷ text ∷ []) TextTooLong [] long_text_text
   tokens_listed : {sheet_name text_name bytes text listed : List ℕ} {sheet : Sheet} (tokens : List Token) → Accepts bytes sheet → length text ≤ text_limit → AreTokens (scanning_of sheet) text tokens → listed ≡ token_list sheet text tokens → Answers (Tokens sheet_name text_name) (bytes ∷ text ∷ []) Done listed []
-  check_refused : {sheet_name bytes said : List ℕ} → Refuses bytes said → Answers (Check sheet_name) (bytes ∷ []) refused_sheet [] said
-  name_refused : {sheet_name bytes said : List ℕ} {sheet : Sheet} → Accepts bytes sheet → IsUseless sheet said → Answers (Check sheet_name) (bytes ∷ []) refused_sheet [] said
-  layout_printed : {sheet_name bytes printed : List ℕ} {sheet : Sheet} → Accepts bytes sheet → IsUseful sheet.grammar → printed ≡ layout sheet → Answers (Check sheet_name) (bytes ∷ []) Done printed []
+  print_refused : {output : Output} {sheet_name bytes said : List ℕ} → Refuses bytes said → Answers (Print output sheet_name) (bytes ∷ []) refused_sheet [] said
+  grammar_refused : {output : Output} {sheet_name bytes said : List ℕ} {sheet : Sheet} → Accepts bytes sheet → HasNoTables sheet said → Answers (Print output sheet_name) (bytes ∷ []) refused_sheet [] said
+  output_printed : {output : Output} {sheet_name bytes printed : List ℕ} {sheet : Sheet} → Accepts bytes sheet → IsBuildable sheet.grammar → IsPrinted output sheet printed → Answers (Print output sheet_name) (bytes ∷ []) Done printed []
 
 -- what a call answers
 pub data Ends (words : List (List ℕ)) : List (List ℕ) → Status → List ℕ → List ℕ → Type 0 where

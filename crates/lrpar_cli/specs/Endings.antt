@@ -10,8 +10,9 @@ use Rattle.sheet_theory.specs.TokenList.{token_list}
 use Rattle.lrpar_cli.specs.Blocks.{AppendsFront}
 use Rattle.lrpar_cli.specs.declared.status.Status.{Status}
 use Rattle.lrpar_cli.specs.declared.status.Status.TheVariants.{Done, Words, Sheet as refused_sheet, ReadFault, WriteFault, NoMemory, TextTooLong}
+use Rattle.lrpar_cli.specs.declared.words.Output.{Output}
 use Rattle.lrpar_cli.specs.Words.{Command, HasForm, names_read}
-use Rattle.lrpar_cli.specs.Answer.{Answers, Ends, read_fault_text, write_fault_text}
+use Rattle.lrpar_cli.specs.Answer.{Answers, Ends, IsPrinted, read_fault_text, write_fault_text}
 
 -- what stands under each name, where it is told
 abbrev pub Stands : Type 0
@@ -115,7 +116,14 @@ pub data IsListing (sheet : Sheet) (text : List ℕ) (sinks : Sinks) : Status �
 pub data IsWriting (text : List ℕ) (sinks : Sinks) : Status → Type 0 where
   written_whole : Appends sinks.out_before sinks.out_after text → Appends sinks.err_before sinks.err_after [] → IsWriting text sinks Done
   written_in_part : Fails sinks.out_before sinks.out_after sinks.out_room sinks.out_faults_before sinks.out_faults_after text → IsFaultSaid sinks → IsWriting text sinks WriteFault
+  written_cut : AppendsFront sinks.out_before sinks.out_after text → Appends sinks.err_before sinks.err_after [] → IsWriting text sinks NoMemory
   not_written : Appends sinks.out_before sinks.out_after [] → Appends sinks.err_before sinks.err_after [] → IsWriting text sinks NoMemory
+
+-- how the printing of what a sheet's grammar has may end
+pub record IsPrinting (output : Output) (sheet : Sheet) (sinks : Sinks) (status : Status) : Type 0 where
+  pub text : List ℕ
+  pub is : IsPrinted output sheet text
+  pub writing : IsWriting text sinks status
 
 -- told bytes have so much sure room left that no write of the text fails
 abbrev pub Fits : Option (List ℕ) → ℕ → List ℕ → Type 0

@@ -7,6 +7,9 @@ use Rattle.outline_data.specs.declared.fault.SheetFault.{SheetFault}
 use Rattle.outline_data.specs.declared.fault.SheetFault.TheVariants.{BadByte, Syntax, BadPattern, PatternMatchesEmpty, Redeclared, UnknownSymbol, NoRules, PlaceOutOfRange, PlaceTwice, NotAToken, Limit, NoMemory}
 use Rattle.first_sets.specs.declared.fault.UselessFault.{UselessFault}
 use Rattle.first_sets.specs.declared.fault.UselessFault.TheVariants.{Unproductive, Unreachable, EmptyTooLarge, NoMemory as exhausted}
+use Rattle.grammar_checks.specs.declared.fault.GrammarFault.{GrammarFault}
+use Rattle.grammar_checks.specs.declared.fault.GrammarFault.TheVariants.{Useless, TooManyStates, Conflict, NoMemory as spent}
+use Rattle.conflict_report.specs.ItemTexts.{conflict_text}
 
 -- a fault on a line: its number, the line, and what it is
 abbrev pub said_on : ℕ → ℕ → List ℕ → List ℕ
@@ -52,3 +55,13 @@ useless_text sheet (Unproductive n) = name_said 12 (codes ": unproductive: ") (n
 useless_text sheet (Unreachable n) = name_said 13 (codes ": unreachable: ") (name_in sheet n)
 useless_text sheet (EmptyTooLarge n) = name_said 14 (codes ": empty tree too large: ") (name_in sheet n)
 useless_text sheet exhausted = []
+
+abbrev pub many_states_text : List ℕ
+many_states_text = codes "sheet fault 15: more than 10000 states\n"
+
+-- what is said of the fault of a sheet's grammar
+abbrev pub grammar_text : Sheet → GrammarFault → List ℕ
+grammar_text sheet (Useless fault) = useless_text sheet fault
+grammar_text sheet TooManyStates = many_states_text
+grammar_text sheet (Conflict conflict) = conflict_text sheet conflict
+grammar_text sheet spent = []

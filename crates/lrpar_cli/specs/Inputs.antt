@@ -8,7 +8,7 @@ use Rattle.token_patterns.specs.Scanner.{IsScannerOf, ranks_of}
 use Rattle.lrpar_cli.specs.declared.inputs.Accepted.{Accepted}
 use Rattle.lrpar_cli.specs.declared.inputs.Stop.{Stop}
 use Rattle.lrpar_cli.specs.declared.inputs.Stop.TheVariants.{Sheet, TextTooLong, ReadFault, NoMemory}
-use Rattle.lrpar_cli.specs.Answer.{HasTooManyStates, states_fault, Refuses, IsUseless, text_limit}
+use Rattle.lrpar_cli.specs.Answer.{HasTooManyStates, states_fault, Refuses, HasNoTables, text_limit}
 use Rattle.lrpar_cli.specs.FaultTexts.{fault_text}
 
 -- these bytes were read, where it is told what stands there
@@ -50,12 +50,12 @@ IsRefusedBy bytes TextTooLong = ⊥
 IsRefusedBy bytes ReadFault = ⊥
 IsRefusedBy bytes NoMemory = Unit {0}
 
--- the refusal of a sheet with a useless name, or want of memory
-abbrev pub IsNameStop : SheetParts → Stop → Type 0
-IsNameStop sheet (Sheet said) = IsUseless sheet said
-IsNameStop sheet TextTooLong = ⊥
-IsNameStop sheet ReadFault = ⊥
-IsNameStop sheet NoMemory = Unit {0}
+-- the refusal of a sheet whose grammar has no tables, or want of memory
+abbrev pub IsGrammarStop : SheetParts → Stop → Type 0
+IsGrammarStop sheet (Sheet said) = HasNoTables sheet said
+IsGrammarStop sheet TextTooLong = ⊥
+IsGrammarStop sheet ReadFault = ⊥
+IsGrammarStop sheet NoMemory = Unit {0}
 
 -- the text has more bytes than a text may have
 pub record IsLongText (stood : Option (List ℕ)) : Type 0 where

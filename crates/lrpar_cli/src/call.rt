@@ -1,15 +1,19 @@
 ghost use Rattle.std.specs.Prelude.{◌≡◌, ◌≢◌, ◌≤◌, ◌⊎◌, length, List, ℕ, map, string_bytes};
 ghost use Rattle.outline_theory.specs.Layout.{layout};
+ghost use Rattle.grammar_checks.specs.Building.{AreBuiltOf};
+ghost use Rattle.conflict_report.specs.TableTexts.{tables_text};
 ghost use Rattle.lrpar_cli.specs.Answer.{text_limit};
-ghost use Rattle.lrpar_cli.specs.Endings.{IsEnding, IsListing, IsWriting, IsSpoken, HaveRoom, AreServed, StopsEarly, IsSilent};
+ghost use Rattle.lrpar_cli.specs.Endings.{IsEnding, IsListing, IsPrinting, IsWriting, IsSpoken, HaveRoom, AreServed, StopsEarly, IsSilent};
 ghost use Rattle.lrpar_cli.specs.Inputs.{IsReady};
 ghost use Rattle.lrpar_cli.specs.Stops.{IsStopSaid};
-ghost use Rattle.lrpar_cli.specs.Words.{Command, Tokens, Check, HasForm, IsBadWords, IsCommand};
+ghost use Rattle.lrpar_cli.specs.Words.{Command, Tokens, Print, HasForm, IsBadWords, IsCommand};
 
-use crate::inputs::{Accepted, Stop, check_names, lex_text, read_accepted, read_text};
+use crate::inputs::{Accepted, Stop, build_sheet, lex_text, read_accepted, read_text};
 use crate::status::Status;
+use crate::table_list::write_tables;
 use crate::token_list::{ListFault, write_list};
-use crate::words::{Command as Asked, command_of};
+use crate::words::{Command as Asked, Output, command_of};
+use grammar_checks::Built;
 use lr_base::{Gate, Shelf, Sink, write_all};
 use sheet_reader::{Sheet, print_sheet};
 use std::alloc::Global;
@@ -169,15 +173,90 @@ fn write_layout<O: Sink, E: Sink>(alloc: Global, sheet: &Sheet, out: &mut O, err
     }
 }
 
-/// `check SHEET`: reads the sheet, looks for useless names, and writes the normal layout.
-fn check_sheet<S: Shelf, O: Sink, E: Sink>(
+/// Writes the states of a sheet's grammar, with their items and what they do.
+fn write_states<O: Sink, E: Sink>(
     alloc: Global,
+    sheet: &Sheet,
+    built: &Built,
+    out: &mut O,
+    err: &mut E,
+) -> Status
+    requires { AreBuiltOf sheet.now.grammar built.now.collection built.now.tables }
+    ensures writing { IsWriting (tables_text sheet.now built.now.collection built.now.tables) (record {
+      out_room = O.room out.old;
+      err_room = E.room err.old;
+      out_before = O.taken out.old;
+      out_after = O.taken out.new;
+      out_faults_before = O.faults out.old;
+      out_faults_after = O.faults out.new;
+      err_before = E.taken err.old;
+      err_after = E.taken err.new;
+      err_faults_before = E.faults err.old;
+      err_faults_after = E.faults err.new;
+    }) result }
+    ensures early { ¬ (StopsEarly result) }
+    ensures silent { IsSilent result → err.new ≡ err.old }
+    ensures out_later { O.faults out.old ≤ O.faults out.new }
+    ensures out_room { O.room out.new ≡ O.room out.old }
+    ensures err_later { E.faults err.old ≤ E.faults err.new }
+    ensures err_room { E.room err.new ≡ E.room err.old }
+{
+    let names = match sheet.token_texts() {
+        Ok(names) => names,
+        Err(_) => return Status::NoMemory,
+    };
+    match write_tables(alloc, &names, sheet, &built.collection, &built.tables, out) {
+        Ok(()) => Status::Done,
+        Err(ListFault::NoMemory) => Status::NoMemory,
+        Err(ListFault::Failed) => say(err, WRITE_FAULT, Status::WriteFault),
+    }
+}
+
+/// Writes what is printed of a sheet whose grammar has tables.
+fn write_output<O: Sink, E: Sink>(
+    alloc: Global,
+    output: Output,
+    sheet: &Sheet,
+    built: &Built,
+    out: &mut O,
+    err: &mut E,
+) -> Status
+    requires { AreBuiltOf sheet.now.grammar built.now.collection built.now.tables }
+    ensures printing { IsPrinting output sheet.now (record {
+      out_room = O.room out.old;
+      err_room = E.room err.old;
+      out_before = O.taken out.old;
+      out_after = O.taken out.new;
+      out_faults_before = O.faults out.old;
+      out_faults_after = O.faults out.new;
+      err_before = E.taken err.old;
+      err_after = E.taken err.new;
+      err_faults_before = E.faults err.old;
+      err_faults_after = E.faults err.new;
+    }) result }
+    ensures early { ¬ (StopsEarly result) }
+    ensures silent { IsSilent result → err.new ≡ err.old }
+    ensures out_later { O.faults out.old ≤ O.faults out.new }
+    ensures out_room { O.room out.new ≡ O.room out.old }
+    ensures err_later { E.faults err.old ≤ E.faults err.new }
+    ensures err_room { E.room err.new ≡ E.room err.old }
+{
+    match output {
+        Output::Layout => write_layout(alloc, sheet, out, err),
+        Output::Tables => write_states(alloc, sheet, built, out, err),
+    }
+}
+
+/// `check SHEET` and `tables SHEET`: reads the sheet, builds its tables, and writes what is printed of it.
+fn print_output<S: Shelf, O: Sink, E: Sink>(
+    alloc: Global,
+    output: Output,
     sheet_name: &str,
     shelf: &mut S,
     out: &mut O,
     err: &mut E,
 ) -> Status
-    ensures ending { (words : List (List ℕ)) → HasForm words (Check sheet_name.now)
+    ensures ending { (words : List (List ℕ)) → HasForm words (Print output sheet_name.now)
         → IsEnding (S.stands shelf.old) (S.served shelf.old) words (S.faults shelf.old) (S.faults shelf.new) (record {
           out_room = O.room out.old;
           err_room = E.room err.old;
@@ -206,8 +285,8 @@ fn check_sheet<S: Shelf, O: Sink, E: Sink>(
         Err(stop) => return say_stop(err, stop),
     };
     let sheet = &accepted.sheet;
-    match check_names(alloc, sheet) {
-        Ok(()) => write_layout(alloc, sheet, out, err),
+    match build_sheet(alloc, sheet) {
+        Ok(built) => write_output(alloc, output, sheet, &built, out, err),
         Err(stop) => say_stop(err, stop),
     }
 }
@@ -246,7 +325,7 @@ fn run<S: Shelf, O: Sink, E: Sink>(
 {
     match command {
         Asked::Tokens { sheet, text } => list_tokens(alloc, sheet, text, shelf, out, err),
-        Asked::Check { sheet } => check_sheet(alloc, sheet, shelf, out, err),
+        Asked::Print { output, sheet } => print_output(alloc, output, sheet, shelf, out, err),
     }
 }
 

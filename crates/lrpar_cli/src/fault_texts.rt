@@ -2,13 +2,20 @@
 ghost use Rattle.std.specs.Prelude.{◌≡◌, ◌<◌, length, codes, IfOk};
 ghost use Rattle.first_sets.specs.declared.fault.UselessFault.{UselessFault as UselessName};
 ghost use Rattle.first_sets.specs.UselessNames.{IsDue};
-ghost use Rattle.lrpar_cli.specs.FaultTexts.{said_on, kind_name, limit_said, fault_text as text_of_fault, name_said, name_in, useless_text as text_of_useless};
+ghost use Rattle.grammar_checks.specs.Building.{IsFaultOf, IsShown};
+ghost use Rattle.conflict_report.specs.ItemTexts.{conflict_text as text_of_conflict};
+ghost use Rattle.lrpar_cli.specs.FaultTexts.{said_on, kind_name, limit_said, fault_text as text_of_fault, name_said, name_in, useless_text as text_of_useless, grammar_text as text_of_grammar};
 
 use crate::token_list::push_number;
+use conflict_report::conflict_text;
 use first_sets::UselessFault;
-use lr_base::NameId;
+use grammar_checks::GrammarFault;
+use lr_base::{NameId, NoMemory};
+use lr_tables::Conflict;
 use sheet_reader::{LimitKind, Sheet, SheetFault};
 use std::alloc::{AllocError, Global};
+
+const MANY_STATES: &[u8] = b"sheet fault 15: more than 10000 states\n";
 
 /// A fault on a line.
 fn on_line(alloc: Global, number: u64, line: u32, what: &[u8]) -> Result<Vec<u8>, AllocError>
@@ -104,11 +111,7 @@ fn unreachable_text(alloc: Global, sheet: &Sheet, name: NameId) -> Result<Vec<u8
 }
 
 /// What is said of a useless name: one line, with the fault's number; nothing of want of memory.
-pub fn useless_text(
-    alloc: Global,
-    sheet: &Sheet,
-    fault: UselessFault,
-) -> Result<Vec<u8>, AllocError>
+fn useless_text(alloc: Global, sheet: &Sheet, fault: UselessFault) -> Result<Vec<u8>, AllocError>
     requires { IsDue sheet.now.grammar fault }
     ensures { IfOk result (λ text. text.items ≡ text_of_useless sheet.now fault) }
 {
@@ -126,5 +129,28 @@ pub fn useless_text(
             )
         }
         UselessFault::NoMemory => Ok(Vec::new(alloc)),
+    }
+}
+
+/// What is said of a grammar's first conflict: a line, and its two items.
+fn conflict_said(alloc: Global, sheet: &Sheet, conflict: &Conflict) -> Result<Vec<u8>, NoMemory>
+    requires { IsShown sheet.now.grammar conflict.now }
+    ensures { IfOk result (λ text. text.items ≡ text_of_conflict sheet.now conflict.now) }
+{
+    let _rules = sheet.grammar().rules();
+    conflict_text(alloc, sheet, conflict)
+}
+
+/// What is said of the first fault of a sheet's grammar: one line, with the fault's number, and for a conflict two more;
+/// nothing of want of memory.
+pub fn grammar_text(alloc: Global, sheet: &Sheet, fault: GrammarFault) -> Result<Vec<u8>, NoMemory>
+    requires { IsFaultOf sheet.now.grammar fault }
+    ensures { IfOk result (λ text. text.items ≡ text_of_grammar sheet.now fault) }
+{
+    match fault {
+        GrammarFault::Useless(fault) => Ok(useless_text(alloc, sheet, fault)?),
+        GrammarFault::TooManyStates => Ok(Vec::from_slice(alloc, MANY_STATES)?),
+        GrammarFault::Conflict(conflict) => conflict_said(alloc, sheet, &conflict),
+        GrammarFault::NoMemory => Ok(Vec::new(alloc)),
     }
 }

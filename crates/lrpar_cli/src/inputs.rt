@@ -1,20 +1,20 @@
-ghost use Rattle.std.specs.Prelude.{◌≡◌, ◌≢◌, ◌≤◌, ◌<◌, false, length, List, ℕ, IfOk, IfErr, MatchOption};
+ghost use Rattle.std.specs.Prelude.{◌≡◌, ◌≢◌, ◌≤◌, ◌<◌, false, length, List, ℕ, IfOk, IfErr};
 ghost use Rattle.lr_base.specs.Outside.{Rose, is_listed};
 ghost use Rattle.scanning_theory.specs.Lines.{line_starts};
 ghost use Rattle.scanning_theory.specs.Scan.{AreTokens};
 ghost use Rattle.sheet_theory.specs.ScanOrder.{scanning_of};
 ghost use Rattle.outline_data.specs.declared.fault.LimitKind.TheVariants.{SheetBytes};
 ghost use Rattle.outline_data.specs.declared.fault.SheetFault.TheVariants.{Limit};
-ghost use Rattle.first_sets.specs.UselessNames.{IsUseful, IsDue};
+ghost use Rattle.grammar_checks.specs.Building.{IsBuilt, IsFaultOf};
 ghost use Rattle.lrpar_cli.specs.Answer.{Accepts, HasTooManyStates, text_limit, states_fault};
-ghost use Rattle.lrpar_cli.specs.FaultTexts.{fault_text as text_of_fault, useless_text as text_of_useless};
-ghost use Rattle.lrpar_cli.specs.Inputs.{IsReady, IsRefusal, IsRefusedBy, IsStatesStop, IsNameStop, IsRefusedSheet, IsLongText, IsRead};
+ghost use Rattle.lrpar_cli.specs.FaultTexts.{fault_text as text_of_fault, grammar_text as text_of_grammar};
+ghost use Rattle.lrpar_cli.specs.Inputs.{IsReady, IsRefusal, IsRefusedBy, IsStatesStop, IsGrammarStop, IsRefusedSheet, IsLongText, IsRead};
 
-use crate::fault_texts::{fault_text, useless_text};
-use first_sets::{UselessFault, analyse};
+use crate::fault_texts::{fault_text, grammar_text};
+use grammar_checks::{Built, GrammarFault, build_grammar};
 use grammar_data::Token;
 use line_lexer::{Lines, lex_lines};
-use lr_base::{Grammar, NoMemory, ReadFault, SHEET_BYTES, Shelf, TEXT_BYTES, Text, read_all};
+use lr_base::{NoMemory, ReadFault, SHEET_BYTES, Shelf, TEXT_BYTES, Text, read_all};
 use pattern_data::Meaning;
 use sheet_data::Bytes;
 use sheet_reader::{LimitKind, ScanOrder, Sheet, SheetFault, read_sheet};
@@ -133,36 +133,26 @@ fn accept(alloc: Global, bytes: &[u8]) -> Result<Accepted, Stop>
     }
 }
 
-/// The first useless name of a grammar.
-fn find_useless(alloc: Global, grammar: &Grammar) -> Option<UselessFault>
-    ensures { MatchOption result (IsUseful grammar.now) (IsDue grammar.now) }
+/// The refusal of a sheet whose grammar has a fault.
+fn grammar_refusal(alloc: Global, sheet: &Sheet, fault: GrammarFault) -> Stop
+    requires { IsFaultOf sheet.now.grammar fault }
+    ensures { IsRefusal (text_of_grammar sheet.now fault) result }
 {
-    let Err(fault) = analyse(alloc, grammar) else {
-        return None;
-    };
-    Some(fault)
-}
-
-/// The refusal of a sheet with a useless name.
-fn name_refusal(alloc: Global, sheet: &Sheet, fault: UselessFault) -> Stop
-    requires { IsDue sheet.now.grammar fault }
-    ensures { IsRefusal (text_of_useless sheet.now fault) result }
-{
-    match useless_text(alloc, sheet, fault) {
+    match grammar_text(alloc, sheet, fault) {
         Ok(text) => Stop::Sheet(Bytes::from_vec(text)),
         Err(_) => Stop::NoMemory,
     }
 }
 
-/// Looks for useless names.
-pub fn check_names(alloc: Global, sheet: &Sheet) -> Result<(), Stop>
-    ensures useful { IfOk result (λ _. IsUseful sheet.now.grammar) }
-    ensures refused { IfErr result (λ stop. IsNameStop sheet.now stop) }
+/// The collection and the tables of a sheet's grammar, which has to have them.
+pub fn build_sheet(alloc: Global, sheet: &Sheet) -> Result<Built, Stop>
+    ensures built { IfOk result (λ built. IsBuilt sheet.now.grammar built) }
+    ensures refused { IfErr result (λ stop. IsGrammarStop sheet.now stop) }
 {
-    match find_useless(alloc, sheet.grammar()) {
-        None => Ok(()),
-        Some(UselessFault::NoMemory) => Err(Stop::NoMemory),
-        Some(fault) => Err(name_refusal(alloc, sheet, fault)),
+    match build_grammar(alloc, sheet.grammar()) {
+        Ok(built) => Ok(built),
+        Err(GrammarFault::NoMemory) => Err(Stop::NoMemory),
+        Err(fault) => Err(grammar_refusal(alloc, sheet, fault)),
     }
 }
 

@@ -6,6 +6,7 @@ mod fault_texts;
 mod inputs;
 mod laws;
 mod status;
+mod table_list;
 mod token_list;
 mod words;
 

@@ -13,7 +13,7 @@ use std::alloc::{AllocError, Global};
 use thiserror::Error;
 
 /// How many bytes are gathered before they are written.
-const BLOCK_BYTES: usize = 65_536;
+pub const BLOCK_BYTES: usize = 65_536;
 
 /// Why a list was not written whole.
 #[derive(Clone, Copy, Debug, PartialEq, Eq, Error)]
@@ -119,7 +119,7 @@ fn push_end(list: &mut Vec<u8>, lines: &Lines) -> Result<(), AllocError>
 }
 
 /// Writes the gathered bytes, and gathers from nothing again.
-fn write_block<O: Sink>(out: &mut O, block: &mut Vec<u8>) -> Result<(), Failed>
+pub fn write_block<O: Sink>(out: &mut O, block: &mut Vec<u8>) -> Result<(), Failed>
     ensures whole { OnOk result ((block.new.items ≡ []) × Appends (O.taken out.old) (O.taken out.new) block.old.items) }
     ensures failed { OnErr result (Fails (O.taken out.old) (O.taken out.new) (O.room out.old) (O.faults out.old) (O.faults out.new) block.old.items) }
     ensures later { O.faults out.old ≤ O.faults out.new }

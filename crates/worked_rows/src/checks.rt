@@ -11,7 +11,7 @@ struct Layout {
     layout: &'static [u8],
 }
 
-static LAYOUTS: [Layout; 5] = [
+static LAYOUTS: [Layout; 7] = [
     Layout {
         name: "two lists",
         sheet: b"%%\ns : c c ;\nc : 'c' c | 'd' ;\n",
@@ -37,6 +37,16 @@ static LAYOUTS: [Layout; 5] = [
         sheet: b"%token E '\xc3\xa9\\x00'\n%%\ns : E { \"\xff\" } ;\n",
         layout: b"%token E '\\xc3\\xa9\\x00'\n%start s\n%%\ns : E { \"\\xff\" } ;\n",
     },
+    Layout {
+        name: "a pattern, and a literal among what it matches",
+        sheet: b"%token ID /[a-z]+/\n%%\ns : 'if' { \"K\" } | ID { \"I\" $1 } ;\n",
+        layout: b"%token ID /[a-z]+/\n%start s\n%%\ns : 'if' { \"K\" } ;\ns : ID { \"I\" $1 } ;\n",
+    },
+    Layout {
+        name: "no conflict, as the states of one core stay apart",
+        sheet: b"%%\ns : 'a' x 'c' | 'a' y 'd' | 'b' y 'c' | 'b' x 'd' ;\nx : 'e' { \"x\" } ;\ny : 'e' { \"y\" } ;\n",
+        layout: b"%start s\n%%\ns : 'a' x 'c' { $1 $2 $3 } ;\ns : 'a' y 'd' { $1 $2 $3 } ;\ns : 'b' y 'c' { $1 $2 $3 } ;\ns : 'b' x 'd' { $1 $2 $3 } ;\nx : 'e' { \"x\" } ;\ny : 'e' { \"y\" } ;\n",
+    },
 ];
 
 #[test]
@@ -59,7 +69,7 @@ struct Fault {
     said: &'static [u8],
 }
 
-static FAULTS: [Fault; 26] = [
+static FAULTS: [Fault; 29] = [
     Fault {
         name: "a bad byte before a fault of syntax",
         sheet: b"%%\n\x01 ?\n",
@@ -189,6 +199,21 @@ static FAULTS: [Fault; 26] = [
         name: "the left side is a token",
         sheet: b"%token A 'a'\n%%\ns : A ;\nA : 'b' ;\n",
         said: b"sheet fault 5: line 4: redeclared\n",
+    },
+    Fault {
+        name: "a token that may be shifted, or end a rule before it",
+        sheet: b"%%\ns : 'i' s | 'i' s 'e' s | 'x' ;\n",
+        said: b"sheet fault 16: conflict in state 7 on 'e'\n  s : 'i' s . , 'e'\n  s : 'i' s . 'e' s , 'e'\n",
+    },
+    Fault {
+        name: "a rule of its own name alone",
+        sheet: b"%%\ns : s | 'a' ;\n",
+        said: b"sheet fault 16: conflict in state 2 on end of text\n  s : s . , end of text\n  $accept : s . , end of text\n",
+    },
+    Fault {
+        name: "two rules of one right side",
+        sheet: b"%%\ns : x 'b' | y 'b' ;\nx : 'a' ;\ny : 'a' ;\n",
+        said: b"sheet fault 16: conflict in state 1 on 'b'\n  x : 'a' . , 'b'\n  y : 'a' . , 'b'\n",
     },
 ];
 

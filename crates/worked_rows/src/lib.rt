@@ -29,3 +29,5 @@ mod program;
 mod reading;
 #[cfg(test)]
 mod scanning;
+#[cfg(test)]
+mod tables;

@@ -1,0 +1,81 @@
+//! The printed tables of a sheet, written in blocks.
+ghost use Rattle.std.specs.Prelude.{◌≡◌, ◌<◌, ◌≤◌, ◌++◌, OnErr, OnOk};
+ghost use Rattle.std.specs.Io.KnownBytes.{Appends};
+ghost use Rattle.sheet_theory.specs.Names.{token_names};
+ghost use Rattle.conflict_report.specs.Belonging.{BelongTo};
+ghost use Rattle.conflict_report.specs.TableTexts.{state_text, tables_text};
+ghost use Rattle.lrpar_cli.specs.Endings.{Fails};
+ghost use Rattle.lrpar_cli.specs.Blocks.{AppendsFront, Passes};
+
+use crate::token_list::{BLOCK_BYTES, ListFault, write_block};
+use conflict_report::{push_state, push_states_line};
+use item_sets::Collection;
+use lr_base::{NoMemory, Sink, StateId};
+use lr_machine::Tables;
+use sheet_data::Bytes;
+use sheet_reader::Sheet;
+use std::alloc::Global;
+
+/// Adds the lines of a state to the gathered bytes, and writes them where they are many.
+fn write_state<O: Sink>(
+    out: &mut O,
+    block: &mut Vec<u8>,
+    names: &[Bytes],
+    sheet: &Sheet,
+    collection: &Collection,
+    tables: &Tables,
+    state: StateId,
+) -> Result<(), ListFault>
+    requires names { names.now ≡ token_names sheet.now }
+    requires belong { BelongTo sheet.now.grammar collection.now tables.now }
+    requires state { state < tables.now.states }
+    ensures passed { OnOk result (Passes (O.taken out.old) (O.taken out.new) block.old.items block.new.items (state_text sheet.now collection.now tables.now state)) }
+    ensures failed { result ≡ Err ListFault.Failed → Fails (O.taken out.old) (O.taken out.new) (O.room out.old) (O.faults out.old) (O.faults out.new) (block.old.items ++ state_text sheet.now collection.now tables.now state) }
+    ensures kept { result ≡ Err ListFault.NoMemory → out.new ≡ out.old }
+    ensures later { O.faults out.old ≤ O.faults out.new }
+    ensures room { O.room out.new ≡ O.room out.old }
+{
+    if let Err(NoMemory) = push_state(block, names, sheet, collection, tables, state) {
+        return Err(ListFault::NoMemory);
+    }
+    if block.len() >= BLOCK_BYTES {
+        write_block(out, block)?;
+    }
+    Ok(())
+}
+
+/// Writes the printed tables, in blocks, where `names` are the printed names of the tokens by number.
+pub fn write_tables<O: Sink>(
+    alloc: Global,
+    names: &[Bytes],
+    sheet: &Sheet,
+    collection: &Collection,
+    tables: &Tables,
+    out: &mut O,
+) -> Result<(), ListFault>
+    requires names { names.now ≡ token_names sheet.now }
+    requires belong { BelongTo sheet.now.grammar collection.now tables.now }
+    ensures whole { OnOk result (Appends (O.taken out.old) (O.taken out.new) (tables_text sheet.now collection.now tables.now)) }
+    ensures failed { result ≡ Err ListFault.Failed → Fails (O.taken out.old) (O.taken out.new) (O.room out.old) (O.faults out.old) (O.faults out.new) (tables_text sheet.now collection.now tables.now) }
+    ensures cut { result ≡ Err ListFault.NoMemory → AppendsFront (O.taken out.old) (O.taken out.new) (tables_text sheet.now collection.now tables.now) }
+    ensures later { O.faults out.old ≤ O.faults out.new }
+    ensures room { O.room out.new ≡ O.room out.old }
+{
+    let mut block = Vec::new(alloc);
+    if let Err(NoMemory) = push_states_line(&mut block, tables) {
+        return Err(ListFault::NoMemory);
+    }
+    for state in 0..tables.states() {
+        write_state(
+            out,
+            &mut block,
+            names,
+            sheet,
+            collection,
+            tables,
+            StateId(state),
+        )?;
+    }
+    write_block(out, &mut block)?;
+    Ok(())
+}

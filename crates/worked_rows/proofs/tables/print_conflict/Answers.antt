@@ -1,0 +1,12 @@
+use Rattle.item_sets.proofs.TableLemmas.{in_range}
+use Rattle.conflict_report.proofs.BelongingLemmas.{first_conflict}
+use Rattle.worked_rows.proofs.tables.print_conflict.Goals as goal
+
+pub conflict_text-requires : goal.conflict_text-requires
+conflict_text-requires c = first_conflict c.args.sheet.now.grammar (in_range c.args.sheet.now.grammar (rw c.grammar.ensures at c.rules-rules.ensures.grammar)) c.args.conflict.now c.requires
+
+pub item_text-requires : goal.item_text-requires
+item_text-requires c = (first_conflict c.args.sheet.now.grammar (in_range c.args.sheet.now.grammar (rw c.grammar.ensures at c.rules-rules.ensures.grammar)) c.args.conflict.now c.requires).first
+
+pub item_text-requires-2 : goal.item_text-requires-2
+item_text-requires-2 c = (first_conflict c.args.sheet.now.grammar (in_range c.args.sheet.now.grammar (rw c.grammar.ensures at c.rules-rules.ensures.grammar)) c.args.conflict.now c.requires).second
