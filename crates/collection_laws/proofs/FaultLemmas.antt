@@ -4,7 +4,7 @@ use Rattle.grammar_data.specs.Grammar.{Grammar}
 use Rattle.grammar_theory.specs.Rules.{IsInRange}
 use Rattle.item_theory.specs.Items.{HasConflict}
 use Rattle.item_theory.specs.Collections.{HasMoreStates}
-use Rattle.first_sets.specs.UselessNames.{IsUseful}
+use Rattle.grammar_theory.specs.UselessNames.{IsUseful}
 use Rattle.grammar_checks.specs.declared.fault.GrammarFault.{GrammarFault}
 use Rattle.grammar_checks.specs.declared.fault.GrammarFault.TheVariants.{Useless, TooManyStates, Conflict, NoMemory}
 use Rattle.grammar_checks.specs.Building.{IsSmall, IsBuildable, IsFaultOf, most_states}

@@ -5,7 +5,8 @@ use Rattle.grammar_data.specs.Grammar.{Grammar}
 use Rattle.grammar_theory.specs.UsefulNames.{IsProductive, IsReachable}
 use Rattle.first_sets.specs.declared.fault.UselessFault.{UselessFault}
 use Rattle.first_sets.specs.declared.fault.UselessFault.TheVariants.{Unproductive, Unreachable, EmptyTooLarge, NoMemory}
-use Rattle.first_sets.specs.UselessNames.{IsEmptyTooLarge, IsUseful, IsDue}
+use Rattle.grammar_theory.specs.UselessNames.{IsEmptyTooLarge, IsUseful}
+use Rattle.first_sets.specs.NameFaults.{IsDue}
 use Rattle.state_laws.proofs.RefutedLemmas.{NotRefuted, decided}
 
 -- a fact of all numbers below the bound

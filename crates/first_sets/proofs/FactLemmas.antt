@@ -19,7 +19,7 @@ use Rattle.grammar_theory.proofs.FirstLemmas.{first_by_rule}
 use Rattle.grammar_theory.proofs.NameLaws.{first_table_law}
 use Rattle.first_sets.specs.declared.opening.Opening.{Opening}
 use Rattle.first_sets.specs.NameFacts.{AreFirsts, AreSizes}
-use Rattle.first_sets.specs.UselessNames.{AllReachable, AllEmptySmall, IsLeastTooLarge}
+use Rattle.grammar_theory.specs.UselessNames.{AllReachable, AllEmptySmall, IsLeastTooLarge}
 use Rattle.first_sets.specs.EmptySizes.{AreKnownBelow, AreSized, IsLeastUnsized, size_in}
 use Rattle.first_sets.specs.KnownNames.{AreUses, AreSteps, is_known}
 use Rattle.first_sets.specs.Openings.{AreOpenings, AreReaders, Begins, BeginsIn, IsFilled, IsOpeningOf, IsVisible, PassesOn, opening, set_at}

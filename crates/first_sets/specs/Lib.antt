@@ -3,4 +3,4 @@ pub mod KnownNames
 pub mod NameFacts
 pub mod Openings
 pub mod Relations
-pub mod UselessNames
+pub mod NameFaults

@@ -2,13 +2,14 @@ ghost use Rattle.std.specs.Prelude.{◌≡◌, ◌↔◌, ℕ, ◌≤◌, length
 ghost use Rattle.lr_base.specs.IsGrammar.{IsGrammar};
 ghost use Rattle.lr_base.specs.TokenSet.{IsTokenSet, has_token};
 ghost use Rattle.grammar_theory.specs.UsefulNames.{AllProductive};
+ghost use Rattle.grammar_theory.specs.UselessNames.{AllReachable, IsUseful};
 ghost use Rattle.grammar_theory.specs.EmptyNames.{IsNullable};
 ghost use Rattle.grammar_theory.specs.FirstTokens.{FirstHas};
 ghost use Rattle.first_sets.specs.EmptySizes.{AreKnownBelow, IsLeastUnknown};
 ghost use Rattle.first_sets.specs.KnownNames.{AreSteps, AreUses, is_known};
 ghost use Rattle.first_sets.specs.NameFacts.{AreFirsts, AreSizes};
 ghost use Rattle.first_sets.specs.Openings.{set_at};
-ghost use Rattle.first_sets.specs.UselessNames.{AllReachable, IsDue, IsUseful, OneFaultLaw, UsefulLaw};
+ghost use Rattle.first_sets.specs.NameFaults.{IsDue, OneNameFaultLaw, UsefulLaw};
 
 use crate::empty_size::{empty_sizes, least_unsized};
 use crate::fault::UselessFault;
@@ -129,5 +130,5 @@ pub fn analyse(alloc: Global, grammar: &Grammar) -> Result<Firsts, UselessFault>
 /// One answer is due: no fault where all names are useful, and else one fault, unless memory runs out.
 pub fn one_answer()
     ensures useful { UsefulLaw }
-    ensures one_fault { OneFaultLaw }
+    ensures one_fault { OneNameFaultLaw }
 {}

@@ -9,7 +9,8 @@ use Rattle.table_data.specs.Tables.{Tables}
 use Rattle.table_theory.specs.Canonical.{AreCanonical}
 use Rattle.table_theory.specs.Conflicts.{IsFirstConflict}
 use Rattle.first_sets.specs.declared.fault.UselessFault.TheVariants.{NoMemory as exhausted}
-use Rattle.first_sets.specs.UselessNames.{IsUseful, IsDue}
+use Rattle.grammar_theory.specs.UselessNames.{IsUseful}
+use Rattle.first_sets.specs.NameFaults.{IsDue}
 use Rattle.item_sets.specs.Tables.{Tables as StateTables, IsCollectionOf, has_item, state_count, step_in}
 use Rattle.lr_tables.specs.declared.conflict.Conflict.{Conflict as ShownConflict}
 use Rattle.grammar_checks.specs.declared.fault.GrammarFault.{GrammarFault}

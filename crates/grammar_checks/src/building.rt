@@ -1,6 +1,6 @@
 ghost use Rattle.std.specs.Prelude.{IfErr, IfOk};
 ghost use Rattle.first_sets.specs.NameFacts.{AreFirsts};
-ghost use Rattle.first_sets.specs.UselessNames.{IsUseful};
+ghost use Rattle.grammar_theory.specs.UselessNames.{IsUseful};
 ghost use Rattle.item_sets.specs.Tables.{IsCollectionOf};
 ghost use Rattle.item_theory.specs.Collections.{HasMoreStates};
 ghost use Rattle.grammar_checks.specs.Building.{IsBuilt, IsFaultOf};

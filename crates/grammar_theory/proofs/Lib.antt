@@ -9,3 +9,4 @@ pub mod FirstLemmas
 pub mod SizeLemmas
 pub mod DerivationLaws
 pub mod NameLaws
+pub mod UselessLemmas

@@ -5,6 +5,7 @@
 ghost use Rattle.grammar_theory.specs.Derivations.{AppendLaw, SplitLaw, FoldLaw, MoreRulesLaw, WordLaw, StepsLaw, TokensLaw, EndLaw};
 ghost use Rattle.grammar_theory.specs.Trees.{TreesLaw, TreeLaw, SentenceLaw};
 ghost use Rattle.grammar_theory.specs.UsefulNames.{ProductiveTreeLaw, ProductiveRuleLaw, ProductiveTestLaw, ReachableLaw, ReachableTestLaw};
+ghost use Rattle.grammar_theory.specs.UselessNames.{OneUnproductiveLaw, OneUnreachableLaw, OneTooLargeLaw};
 ghost use Rattle.grammar_theory.specs.EmptyNames.{EmptyTreeLaw, NullableSizeLaw, OneSizeLaw, NullableRuleLaw, NullableListLaw, NullableTestLaw, FirstRoundLaw, RoundLaw, NextRoundLaw, UnsizedLaw, SizeTableLaw, SizedLaw};
 ghost use Rattle.grammar_theory.specs.FirstTokens.{FirstLaw, FollowsLaw, FoundPartsLaw, FirstRuleLaw, FirstTableLaw};
 
@@ -34,6 +35,13 @@ pub fn useful_name_laws()
     ensures productive_test { ProductiveTestLaw }
     ensures reachable { ReachableLaw }
     ensures reachable_test { ReachableTestLaw }
+{}
+
+/// The least useless name of each kind is one.
+pub fn useless_name_laws()
+    ensures unproductive { OneUnproductiveLaw }
+    ensures unreachable { OneUnreachableLaw }
+    ensures too_large { OneTooLargeLaw }
 {}
 
 /// Nullable names are found by rules, and known exactly by a closed test.

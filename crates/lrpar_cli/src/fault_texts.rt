@@ -1,7 +1,7 @@
 //! What is said of a sheet's fault.
 ghost use Rattle.std.specs.Prelude.{◌≡◌, ◌<◌, length, codes, IfOk};
 ghost use Rattle.first_sets.specs.declared.fault.UselessFault.{UselessFault as UselessName};
-ghost use Rattle.first_sets.specs.UselessNames.{IsDue};
+ghost use Rattle.first_sets.specs.NameFaults.{IsDue};
 ghost use Rattle.grammar_checks.specs.Building.{IsFaultOf, IsShown};
 ghost use Rattle.conflict_report.specs.ItemTexts.{conflict_text as text_of_conflict};
 ghost use Rattle.lrpar_cli.specs.FaultTexts.{said_on, kind_name, limit_said, fault_text as text_of_fault, name_said, name_in, useless_text as text_of_useless, grammar_text as text_of_grammar};

@@ -1,12 +1,11 @@
--- Names for which no tables are built: those that derive no token list, those that no list derived from the start has,
--- and nullable names all of whose empty trees are large. At most one name is shown: the least of the first kind that is there.
-use Rattle.std.specs.Prelude.{◌≡◌, ◌≢◌, ℕ, ◌<◌, [], ◌∷◌}
+-- Useless names: those that derive no token list, those that no list derived from the start has, and nullable names all of
+-- whose empty trees are large. A grammar without one is useful; and of one that has some, the first is the least of the
+-- first kind that is there.
+use Rattle.std.specs.Prelude.{◌≡◌, ℕ, ◌<◌, [], ◌∷◌}
 use Rattle.grammar_data.specs.declared.rule.Sym.TheVariants.{Name}
 use Rattle.grammar_data.specs.Grammar.{Grammar}
 use Rattle.grammar_theory.specs.UsefulNames.{IsProductive, AllProductive, IsReachable}
 use Rattle.grammar_theory.specs.EmptyNames.{IsNullable, Vanishes}
-use Rattle.first_sets.specs.declared.fault.UselessFault.{UselessFault}
-use Rattle.first_sets.specs.declared.fault.UselessFault.TheVariants.{Unproductive, Unreachable, EmptyTooLarge, NoMemory}
 
 abbrev pub AllReachable : Grammar → Type 0
 AllReachable g = (n : ℕ) → n < g.names → IsReachable g n
@@ -46,17 +45,12 @@ pub record IsLeastTooLarge (g : Grammar) (n : ℕ) : Type 0 where
   pub large : IsEmptyTooLarge g n
   pub least : (m : ℕ) → m < n → ¬ (IsEmptyTooLarge g m)
 
--- the fault is due; of want of memory nothing is said
-abbrev pub IsDue : Grammar → UselessFault → Type 0
-IsDue g (Unproductive n) = IsLeastUnproductive g n
-IsDue g (Unreachable n) = IsLeastUnreachable g n
-IsDue g (EmptyTooLarge n) = IsLeastTooLarge g n
-IsDue g NoMemory = Unit {0}
+-- there is one least name of each kind
+abbrev pub OneUnproductiveLaw : Type 0
+OneUnproductiveLaw = (g : Grammar) (n m : ℕ) → IsLeastUnproductive g n → IsLeastUnproductive g m → n ≡ m
 
--- where all names are useful, no fault is due
-abbrev pub UsefulLaw : Type 0
-UsefulLaw = (g : Grammar) (fault : UselessFault) → IsUseful g → IsDue g fault → fault ≡ NoMemory
+abbrev pub OneUnreachableLaw : Type 0
+OneUnreachableLaw = (g : Grammar) (n m : ℕ) → IsLeastUnreachable g n → IsLeastUnreachable g m → n ≡ m
 
--- one fault is due at most
-abbrev pub OneFaultLaw : Type 0
-OneFaultLaw = (g : Grammar) (fault other : UselessFault) → IsDue g fault → IsDue g other → fault ≢ NoMemory → other ≢ NoMemory → fault ≡ other
+abbrev pub OneTooLargeLaw : Type 0
+OneTooLargeLaw = (g : Grammar) (n m : ℕ) → IsLeastTooLarge g n → IsLeastTooLarge g m → n ≡ m
