@@ -21,7 +21,7 @@ use Rattle.first_sets.specs.declared.opening.Opening.{Opening}
 use Rattle.first_sets.specs.NameFacts.{AreFirsts, AreSizes}
 use Rattle.grammar_theory.specs.UselessNames.{AllReachable, AllEmptySmall, IsLeastTooLarge}
 use Rattle.first_sets.specs.EmptySizes.{AreKnownBelow, AreSized, IsLeastUnsized, size_in}
-use Rattle.first_sets.specs.KnownNames.{AreUses, AreSteps, is_known}
+use Rattle.first_sets.specs.KnownNames.{AreUses, AreMentions, is_known}
 use Rattle.first_sets.specs.Openings.{AreOpenings, AreReaders, Begins, BeginsIn, IsFilled, IsOpeningOf, IsVisible, PassesOn, opening, set_at}
 use Rattle.first_sets.proofs.KnownLemmas.{true_is, only_of_known, known_of_only, only_weaker}
 use Rattle.first_sets.proofs.ReachLemmas.{rule_of}
@@ -55,9 +55,9 @@ uses_below g pairs is uses = all_of (λ pair. pair.0 < g.names) pairs (λ pair h
     let found = uses.only pair.0 pair.1 has in
     All-contains (IsSymbolOf g.tokens g.names) found.1 (Name pair.0) (rule_of g is pair.1 found.0 found.1 found.2).right found.3)
 
-pub steps_below : (g : Grammar) (pairs : List (ℕ × ℕ)) → IsGrammar g → AreSteps g.rules pairs → All (λ pair. pair.0 < g.names) pairs
-steps_below g pairs is steps = all_of (λ pair. pair.0 < g.names) pairs (λ pair has.
-    let found = steps.only pair.0 pair.1 has in
+pub mentions_below : (g : Grammar) (pairs : List (ℕ × ℕ)) → IsGrammar g → AreMentions g.rules pairs → All (λ pair. pair.0 < g.names) pairs
+mentions_below g pairs is mentions = all_of (λ pair. pair.0 < g.names) pairs (λ pair has.
+    let found = mentions.only pair.0 pair.1 has in
     (rule_of g is found.0 pair.0 found.1 found.2).left)
 
 wider : (tokens names : ℕ) (x : Sym) → tokens ≤ 256 → IsSymbolOf tokens names x → IsSymbolOf 256 names x
@@ -74,11 +74,11 @@ openings_in_range g nullable openings is all = all_of (IsOpeningOf g.names) open
       symbol = wider g.tokens g.names o.symbol (omega (arith, is.few_tokens)) (subst (λ x. IsSymbolOf g.tokens g.names x) seen.2 (rule.right seen.0 o.symbol seen.1));
     })
 
-pub readers_below : (g : Grammar) (openings : List Opening) (pairs : List (ℕ × ℕ)) → All (IsOpeningOf g.names) openings → AreReaders openings pairs → All (λ pair. pair.0 < g.names) pairs
-readers_below g openings pairs range readers = all_of (λ pair. pair.0 < g.names) pairs (λ pair has.
+pub readers_below : (names : ℕ) (openings : List Opening) (pairs : List (ℕ × ℕ)) → All (IsOpeningOf names) openings → AreReaders openings pairs → All (λ pair. pair.0 < names) pairs
+readers_below names openings pairs range readers = all_of (λ pair. pair.0 < names) pairs (λ pair has.
     let found = readers.only pair.0 pair.1 has in
-    let here : IsOpeningOf g.names found.0 = subst (λ o. IsOpeningOf g.names o) (get_or_from_slice_get openings pair.1 found.0 found.0 found.1) (range pair.1 found.0 (slice_get_within openings pair.1 found.0 found.1)) in
-    subst (λ x. IsSymbolOf 256 g.names x) found.2 here.symbol)
+    let here : IsOpeningOf names found.0 = subst (λ o. IsOpeningOf names o) (get_or_from_slice_get openings pair.1 found.0 found.0 found.1) (range pair.1 found.0 (slice_get_within openings pair.1 found.0 found.1)) in
+    subst (λ x. IsSymbolOf 256 names x) found.2 here.symbol)
 
 -- ---- first tokens
 

@@ -13,35 +13,40 @@ use Rattle.grammar_theory.proofs.RuleLemmas.{rule_once}
 use Rattle.grammar_theory.proofs.UsefulLemmas.{productive_by_rule}
 use Rattle.grammar_theory.proofs.EmptyLemmas.{nullable_by_rule}
 use Rattle.grammar_theory.proofs.NameLaws.{productive_test_law, nullable_test_law}
+use Rattle.first_sets.specs.declared.known_names.Lists.{Lists}
+use Rattle.first_sets.specs.declared.known_names.Lists.TheVariants.{Any, Empty}
 use Rattle.first_sets.specs.Relations.{IsExtended}
-use Rattle.first_sets.specs.KnownNames.{Derives, is_known, IsKnownSymbol, AreUses, IsClosedAt, IsMarkedBy}
+use Rattle.first_sets.specs.KnownNames.{HasList, is_known, IsKnownSymbol, AreUses, IsClosedAt, IsMarkedBy}
 use Rattle.first_sets.proofs.UseLemmas.{use_in_range}
 
 -- how many names are not known
 abbrev pub unknown_in : List Bool → ℕ
 unknown_in known = count_by not known
 
--- ---- known symbols and what they derive
+-- ---- known symbols and their lists
 
-names_of_known : (known : List Bool) (right : List Sym) → All (IsKnownSymbol known true) right → AllNames (λ m. IsTrue (is_known known m)) right
+names_of_known : (known : List Bool) (right : List Sym) → All (IsKnownSymbol known Any) right → AllNames (λ m. IsTrue (is_known known m)) right
 names_of_known known [] all = tt
-names_of_known known (Token a ∷ xs) all = names_of_known known xs (All-tail (IsKnownSymbol known true) (Token a) xs all)
-names_of_known known (Name n ∷ xs) all = (All-head (IsKnownSymbol known true) (Name n) xs all, names_of_known known xs (All-tail (IsKnownSymbol known true) (Name n) xs all))
+names_of_known known (Token a ∷ xs) all = names_of_known known xs (All-tail (IsKnownSymbol known Any) (Token a) xs all)
+names_of_known known (Name n ∷ xs) all = (All-head (IsKnownSymbol known Any) (Name n) xs all, names_of_known known xs (All-tail (IsKnownSymbol known Any) (Name n) xs all))
 
-known_of_names : (known : List Bool) (right : List Sym) → AllNames (λ m. IsTrue (is_known known m)) right → All (IsKnownSymbol known true) right
-known_of_names known [] all = All-nil (IsKnownSymbol known true)
-known_of_names known (Token a ∷ xs) all = All-cons (IsKnownSymbol known true) (Token a) xs refl (known_of_names known xs all)
-known_of_names known (Name n ∷ xs) all = All-cons (IsKnownSymbol known true) (Name n) xs all.0 (known_of_names known xs all.1)
+known_of_names : (known : List Bool) (right : List Sym) → AllNames (λ m. IsTrue (is_known known m)) right → All (IsKnownSymbol known Any) right
+known_of_names known [] all = All-nil (IsKnownSymbol known Any)
+known_of_names known (Token a ∷ xs) all = All-cons (IsKnownSymbol known Any) (Token a) xs refl (known_of_names known xs all)
+known_of_names known (Name n ∷ xs) all = All-cons (IsKnownSymbol known Any) (Name n) xs all.0 (known_of_names known xs all.1)
 
-pub only_of_known : (known : List Bool) (right : List Sym) → All (IsKnownSymbol known false) right → OnlyNames (λ m. IsTrue (is_known known m)) right
+no_token : ◌≡◌ {A = Lists} Empty Any → ⊥
+no_token e = absurd (cc e)
+
+pub only_of_known : (known : List Bool) (right : List Sym) → All (IsKnownSymbol known Empty) right → OnlyNames (λ m. IsTrue (is_known known m)) right
 only_of_known known [] all = tt
-only_of_known known (Token a ∷ xs) all = absurd (false≢true (All-head (IsKnownSymbol known false) (Token a) xs all))
-only_of_known known (Name n ∷ xs) all = (All-head (IsKnownSymbol known false) (Name n) xs all, only_of_known known xs (All-tail (IsKnownSymbol known false) (Name n) xs all))
+only_of_known known (Token a ∷ xs) all = absurd (no_token (All-head (IsKnownSymbol known Empty) (Token a) xs all))
+only_of_known known (Name n ∷ xs) all = (All-head (IsKnownSymbol known Empty) (Name n) xs all, only_of_known known xs (All-tail (IsKnownSymbol known Empty) (Name n) xs all))
 
-pub known_of_only : (known : List Bool) (right : List Sym) → OnlyNames (λ m. IsTrue (is_known known m)) right → All (IsKnownSymbol known false) right
-known_of_only known [] all = All-nil (IsKnownSymbol known false)
+pub known_of_only : (known : List Bool) (right : List Sym) → OnlyNames (λ m. IsTrue (is_known known m)) right → All (IsKnownSymbol known Empty) right
+known_of_only known [] all = All-nil (IsKnownSymbol known Empty)
 known_of_only known (Token a ∷ xs) all = absurd all
-known_of_only known (Name n ∷ xs) all = All-cons (IsKnownSymbol known false) (Name n) xs all.0 (known_of_only known xs all.1)
+known_of_only known (Name n ∷ xs) all = All-cons (IsKnownSymbol known Empty) (Name n) xs all.0 (known_of_only known xs all.1)
 
 pub all_weaker : {P Q : ℕ → Type 0} → ((n : ℕ) → P n → Q n) → (xs : List Sym) → AllNames P xs → AllNames Q xs
 all_weaker f [] all = tt
@@ -53,21 +58,21 @@ only_weaker f [] all = tt
 only_weaker f (Token a ∷ xs) all = absurd all
 only_weaker f (Name n ∷ xs) all = (f n all.0, only_weaker f xs all.1)
 
--- a rule with known symbols makes its left side derive something
-derives_by : (g : Grammar) (tokens : Bool) (known : List Bool) → ((n : ℕ) → IsTrue (is_known known n) → Derives g tokens n)
-    → (r n : ℕ) (right : List Sym) → IsRule g.rules r n right → All (IsKnownSymbol known tokens) right → Derives g tokens n
-derives_by g true known sound r n right rule all = productive_by_rule g right rule (all_weaker sound right (names_of_known known right all))
-derives_by g false known sound r n right rule all = nullable_by_rule g right rule (only_weaker sound right (only_of_known known right all))
+-- a rule with known symbols gives its left side a list
+has_list_by : (g : Grammar) (lists : Lists) (known : List Bool) → ((n : ℕ) → IsTrue (is_known known n) → HasList g lists n)
+    → (r n : ℕ) (right : List Sym) → IsRule g.rules r n right → All (IsKnownSymbol known lists) right → HasList g lists n
+has_list_by g Any known sound r n right rule all = productive_by_rule g right rule (all_weaker sound right (names_of_known known right all))
+has_list_by g Empty known sound r n right rule all = nullable_by_rule g right rule (only_weaker sound right (only_of_known known right all))
 
 -- where no rule makes another name known, all are known
-pub known_exactly : (g : Grammar) (tokens : Bool) (known : List Bool) → ((n : ℕ) → IsTrue (is_known known n) → Derives g tokens n)
-    → ((r : ℕ) → IsClosedAt g.rules r tokens known) → (n : ℕ) → IsTrue (is_known known n) ↔ Derives g tokens n
-known_exactly g true known sound closed n =
+pub known_exactly : (g : Grammar) (lists : Lists) (known : List Bool) → ((n : ℕ) → IsTrue (is_known known n) → HasList g lists n)
+    → ((r : ℕ) → IsClosedAt g.rules r lists known) → (n : ℕ) → IsTrue (is_known known n) ↔ HasList g lists n
+known_exactly g Any known sound closed n =
     productive_test_law g (is_known known) (record {
       sound = sound;
       closed = λ r m right rule all. closed r m right rule (known_of_names known right all);
     }) n
-known_exactly g false known sound closed n =
+known_exactly g Empty known sound closed n =
     nullable_test_law g (is_known known) (record {
       sound = sound;
       closed = λ r m right rule all. closed r m right rule (known_of_only known right all);
@@ -75,12 +80,12 @@ known_exactly g false known sound closed n =
 
 -- ---- the names known so far
 
--- known names derive something, and each rule that isn't closed is pending
-pub record IsSpreading (g : Grammar) (tokens : Bool) (known : List Bool) (pending : List ℕ) : Type 0 where
+-- known names have a list, and each rule that isn't closed is pending
+pub record IsSpreading (g : Grammar) (lists : Lists) (known : List Bool) (pending : List ℕ) : Type 0 where
   pub names : length known ≡ g.names
-  pub sound : (n : ℕ) → IsTrue (is_known known n) → Derives g tokens n
+  pub sound : (n : ℕ) → IsTrue (is_known known n) → HasList g lists n
   pub rules : (r : ℕ) → Contains pending r → r < length g.rules
-  pub closed : (r : ℕ) → Contains pending r ⊎ IsClosedAt g.rules r tokens known
+  pub closed : (r : ℕ) → Contains pending r ⊎ IsClosedAt g.rules r lists known
 
 pub unmarked : (m n : ℕ) → get_or (replicate m false) n false ≡ false
 unmarked m n = elim (cases_lt n m) [
@@ -91,9 +96,9 @@ unmarked m n = elim (cases_lt n m) [
 pub true_is : {b : Bool} → b ≡ true → b ≡ false → ⊥
 true_is is not = false≢true (sym not ∙ is)
 
-pub spread_none : (g : Grammar) (tokens : Bool) (pending : List ℕ) → ((r : ℕ) → r < length g.rules → Contains pending r) → ((r : ℕ) → Contains pending r → r < length g.rules)
-    → IsSpreading g tokens (replicate g.names false) pending
-spread_none g tokens pending all within = record {
+pub spread_none : (g : Grammar) (lists : Lists) (pending : List ℕ) → ((r : ℕ) → r < length g.rules → Contains pending r) → ((r : ℕ) → Contains pending r → r < length g.rules)
+    → IsSpreading g lists (replicate g.names false) pending
+spread_none g lists pending all within = record {
   names = length-replicate g.names false;
   sound = λ n is. absurd (true_is is (unmarked g.names n));
   rules = within;
@@ -104,15 +109,15 @@ spread_none g tokens pending all within = record {
 }
 
 -- a rule that is closed need not be pending
-pub spread_closed : (g : Grammar) (tokens : Bool) (known : List Bool) (rest : List ℕ) (r : ℕ) → IsSpreading g tokens known (rest ++ r ∷ []) → IsClosedAt g.rules r tokens known → IsSpreading g tokens known rest
-spread_closed g tokens known rest r s closed = record {
+pub spread_closed : (g : Grammar) (lists : Lists) (known : List Bool) (rest : List ℕ) (r : ℕ) → IsSpreading g lists known (rest ++ r ∷ []) → IsClosedAt g.rules r lists known → IsSpreading g lists known rest
+spread_closed g lists known rest r s closed = record {
   names = s.names;
   sound = s.sound;
   rules = λ other has. s.rules other (Contains-append_left rest (r ∷ []) other has);
   closed = λ other. elim (s.closed other) [
     | inl has ↦ elim (Contains-push_cases rest r other has) [
       | inl before ↦ inl before
-      | inr e ↦ inr (subst (λ k. IsClosedAt g.rules k tokens known) e closed)
+      | inr e ↦ inr (subst (λ k. IsClosedAt g.rules k lists known) e closed)
     ]
     | inr fine ↦ inr fine
   ];
@@ -141,26 +146,26 @@ contains_here : {X : Type 0} (x : X) (xs : List X) → Contains (x ∷ xs) x
 contains_here x xs = (0, omega arith, refl)
 
 -- symbols have the new name, or are known only if they were
-uses_new : (known : List Bool) (left : ℕ) (tokens : Bool) → left < length known → (xs : List Sym)
-    → Contains xs (Name left) ⊎ (All (IsKnownSymbol (set known left true) tokens) xs → All (IsKnownSymbol known tokens) xs)
-uses_new known left tokens inside [] = inr (λ all. All-nil (IsKnownSymbol known tokens))
-uses_new known left tokens inside (Token a ∷ xs) = elim (uses_new known left tokens inside xs) [
+uses_new : (known : List Bool) (left : ℕ) (lists : Lists) → left < length known → (xs : List Sym)
+    → Contains xs (Name left) ⊎ (All (IsKnownSymbol (set known left true) lists) xs → All (IsKnownSymbol known lists) xs)
+uses_new known left lists inside [] = inr (λ all. All-nil (IsKnownSymbol known lists))
+uses_new known left lists inside (Token a ∷ xs) = elim (uses_new known left lists inside xs) [
   | inl has ↦ inl (contains_more (Token a) (Name left) xs has)
-  | inr old ↦ inr (λ all. All-cons (IsKnownSymbol known tokens) (Token a) xs (All-head (IsKnownSymbol (set known left true) tokens) (Token a) xs all) (old (All-tail (IsKnownSymbol (set known left true) tokens) (Token a) xs all)))
+  | inr old ↦ inr (λ all. All-cons (IsKnownSymbol known lists) (Token a) xs (All-head (IsKnownSymbol (set known left true) lists) (Token a) xs all) (old (All-tail (IsKnownSymbol (set known left true) lists) (Token a) xs all)))
 ]
-uses_new known left tokens inside (Name n ∷ xs) = elim (uses_new known left tokens inside xs) [
+uses_new known left lists inside (Name n ∷ xs) = elim (uses_new known left lists inside xs) [
   | inl has ↦ inl (contains_more (Name n) (Name left) xs has)
   | inr old ↦ elim (cases_eq n left) [
     | inl e ↦ inl (subst (λ k. Contains (Name k ∷ xs) (Name left)) (sym e) (contains_here (Name left) xs))
-    | inr ne ↦ inr (λ all. All-cons (IsKnownSymbol known tokens) (Name n) xs
-        (subst IsTrue (get_or-set_other known left n true false ne) (All-head (IsKnownSymbol (set known left true) tokens) (Name n) xs all))
-        (old (All-tail (IsKnownSymbol (set known left true) tokens) (Name n) xs all)))
+    | inr ne ↦ inr (λ all. All-cons (IsKnownSymbol known lists) (Name n) xs
+        (subst IsTrue (get_or-set_other known left n true false ne) (All-head (IsKnownSymbol (set known left true) lists) (Name n) xs all))
+        (old (All-tail (IsKnownSymbol (set known left true) lists) (Name n) xs all)))
   ]
 ]
 
-module _ (g : Grammar) (tokens : Bool) (known : List Bool) (rest new : List ℕ) (r left : ℕ) (pairs : List (ℕ × ℕ)) where
-  new_closed : (right : List Sym) → IsRule g.rules r left right → left < length known → AreUses g.rules pairs → IsExtended pairs left rest new → IsSpreading g tokens known (rest ++ r ∷ [])
-      → (other : ℕ) → Contains new other ⊎ IsClosedAt g.rules other tokens (set known left true)
+module _ (g : Grammar) (lists : Lists) (known : List Bool) (rest new : List ℕ) (r left : ℕ) (pairs : List (ℕ × ℕ)) where
+  new_closed : (right : List Sym) → IsRule g.rules r left right → left < length known → AreUses g.rules pairs → IsExtended pairs left rest new → IsSpreading g lists known (rest ++ r ∷ [])
+      → (other : ℕ) → Contains new other ⊎ IsClosedAt g.rules other lists (set known left true)
   new_closed right rule inside uses more s other = elim (cases_eq other r) [
     | inl e ↦ inr (λ n side is all. subst (λ k. IsTrue (is_known (set known left true) k)) (rule_once rule (subst (λ k. IsRule g.rules k n side) e is)).0 (set_itself known left inside))
     | inr ne ↦ elim (s.closed other) [
@@ -172,25 +177,25 @@ module _ (g : Grammar) (tokens : Bool) (known : List Bool) (rest new : List ℕ)
     ]
   ]
     where
-      after : IsClosedAt g.rules other tokens known → (o : Option Rule) → slice_get g.rules other ≡ o → Contains new other ⊎ IsClosedAt g.rules other tokens (set known left true)
+      after : IsClosedAt g.rules other lists known → (o : Option Rule) → slice_get g.rules other ≡ o → Contains new other ⊎ IsClosedAt g.rules other lists (set known left true)
       after fine None none = inr (λ n side is all. absurd (cc (none, is.found)))
-      after fine (Some (m, xs)) some = elim (uses_new known left tokens inside xs) [
+      after fine (Some (m, xs)) some = elim (uses_new known left lists inside xs) [
         | inl has ↦ inl (more.added other (uses.every other m left xs (record { found = some }) has))
         | inr old ↦ inr (λ n side is all.
             let same = rule_once (record { found = some }) is in
-            set_known known left n inside (fine n side is (subst (λ ys. All (IsKnownSymbol known tokens) ys) same.1 (old (subst (λ ys. All (IsKnownSymbol (set known left true) tokens) ys) (sym same.1) all)))))
+            set_known known left n inside (fine n side is (subst (λ ys. All (IsKnownSymbol known lists) ys) same.1 (old (subst (λ ys. All (IsKnownSymbol (set known left true) lists) ys) (sym same.1) all)))))
       ]
 
-  pub spread_marked : (marked : List Bool) (m : IsMarkedBy g.rules r tokens known marked) → m.left ≡ left → AreUses g.rules pairs → IsExtended pairs left rest new → g.names ≡ length known → left < g.names
-      → IsSpreading g tokens known (rest ++ r ∷ []) → IsSpreading g tokens marked new
+  pub spread_marked : (marked : List Bool) (m : IsMarkedBy g.rules r lists known marked) → m.left ≡ left → AreUses g.rules pairs → IsExtended pairs left rest new → g.names ≡ length known → left < g.names
+      → IsSpreading g lists known (rest ++ r ∷ []) → IsSpreading g lists marked new
   spread_marked marked m is uses more count less s =
       let inside : left < length known = omega arith in
       let set_is : marked ≡ set known left true = m.marked ∙ ap (λ k. set known k true) is in
       let rule : IsRule g.rules r left m.right = subst (λ k. IsRule g.rules r k m.right) is m.rule in
-      subst (λ ks. IsSpreading g tokens ks new) (sym set_is) (record {
+      subst (λ ks. IsSpreading g lists ks new) (sym set_is) (record {
         names = length-set known left true ∙ s.names;
         sound = λ n yes_now. elim (known_set known left n inside yes_now) [
-          | inl e ↦ subst (λ k. Derives g tokens k) (sym e) (derives_by g tokens known s.sound r left m.right rule m.known)
+          | inl e ↦ subst (λ k. HasList g lists k) (sym e) (has_list_by g lists known s.sound r left m.right rule m.known)
           | inr before ↦ s.sound n before
         ];
         rules = λ other has. elim (more.only other has) [
@@ -208,8 +213,8 @@ unknown_set known left inside unknown =
     omega (arith, sums, was)
 
 -- where no rule is pending, all names are known that derive what is asked
-pub spread_done : (g : Grammar) (tokens : Bool) (known : List Bool) (pending : List ℕ) → length pending ≡ 0 → IsSpreading g tokens known pending → (n : ℕ) → IsTrue (is_known known n) ↔ Derives g tokens n
-spread_done g tokens known pending none s n = known_exactly g tokens known s.sound (λ r. elim (s.closed r) [
+pub spread_done : (g : Grammar) (lists : Lists) (known : List Bool) (pending : List ℕ) → length pending ≡ 0 → IsSpreading g lists known pending → (n : ℕ) → IsTrue (is_known known n) ↔ HasList g lists n
+spread_done g lists known pending none s n = known_exactly g lists known s.sound (λ r. elim (s.closed r) [
   | inl has ↦ absurd (omega (arith, has.1))
   | inr closed ↦ closed
 ]) n

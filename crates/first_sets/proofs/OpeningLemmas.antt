@@ -1,5 +1,5 @@
 -- The openings of right sides.
-use Rattle.std.proofs.Common.{◌≡◌, ℕ, suc, ◌+◌, ◌<◌, ◌≤◌, ◌⊎◌, inl, inr, Bool, false, List, [], ◌∷◌, ◌++◌, length, take, get_or, slice_get, Contains, All, sym, ap, subst, ◌∙◌, arith}
+use Rattle.std.proofs.Common.{◌≡◌, ℕ, suc, ◌+◌, ◌<◌, ◌≤◌, ◌⊎◌, inl, inr, Bool, List, [], ◌∷◌, ◌++◌, length, take, get_or, slice_get, Contains, All, sym, ap, subst, ◌∙◌, arith}
 use Rattle.std.proofs.lemmas.Bool.{cases_lt, cases_eq}
 use Rattle.std.proofs.lemmas.List.{length-append, length-take-le, get_or-take, get_or_default}
 use Rattle.std.proofs.lemmas.List.Elements.{All-more, All-nil, Contains-push, Contains-push_cases, Contains-append_left}
@@ -9,6 +9,7 @@ use Rattle.grammar_data.specs.Grammar.{Rule}
 use Rattle.grammar_theory.specs.Rules.{IsRule}
 use Rattle.grammar_theory.proofs.RuleLemmas.{slice_get_last, slice_get_cases}
 use Rattle.grammar_theory.proofs.DerivationLemmas.{rule_kept, slice_get_kept}
+use Rattle.first_sets.specs.declared.known_names.Lists.TheVariants.{Empty}
 use Rattle.first_sets.specs.declared.opening.Opening.{Opening}
 use Rattle.first_sets.specs.Relations.{HasPair}
 use Rattle.first_sets.specs.KnownNames.{IsKnownSymbol}
@@ -19,7 +20,7 @@ use Rattle.first_sets.proofs.UseLemmas.{contains_none, same_pair}
 
 -- all symbols before a place are nullable names, and are opened
 pub record AreOpenedTo (nullable : List Bool) (left : ℕ) (right : List Sym) (place : ℕ) (old new : List Opening) : Type 0 where
-  pub front : All (IsKnownSymbol nullable false) (take place right)
+  pub front : All (IsKnownSymbol nullable Empty) (take place right)
   pub kept : (o : Opening) → Contains old o → Contains new o
   pub added : (k : ℕ) (x : Sym) → k < place → get_or right k x ≡ x → Contains new (opening left x)
   pub only : (o : Opening) → Contains new o → Contains old o ⊎ ((o.left ≡ left) × IsVisible nullable right o.symbol)
@@ -27,7 +28,7 @@ pub record AreOpenedTo (nullable : List Bool) (left : ℕ) (right : List Sym) (p
 
 pub opened_none : (nullable : List Bool) (left : ℕ) (right : List Sym) (old : List Opening) → AreOpenedTo nullable left right 0 old old
 opened_none nullable left right old = record {
-  front = All-nil (IsKnownSymbol nullable false);
+  front = All-nil (IsKnownSymbol nullable Empty);
   kept = λ o has. has;
   added = λ k x less is. absurd (omega arith);
   only = λ o has. inl has;
@@ -53,9 +54,9 @@ module _ (nullable : List Bool) (left : ℕ) (right : List Sym) (place : ℕ) (o
     | inr e ↦ inr (sym (same_opening e).0, subst (λ y. IsVisible nullable right y) (same_opening e).1 (place, inside, is, h.front))
   ]
 
-  pub opened_more : AreOpenedTo nullable left right place old now → IsKnownSymbol nullable false x → AreOpenedTo nullable left right (place + 1) old (now ++ opening left x ∷ [])
+  pub opened_more : AreOpenedTo nullable left right place old now → IsKnownSymbol nullable Empty x → AreOpenedTo nullable left right (place + 1) old (now ++ opening left x ∷ [])
   opened_more h known = record {
-    front = All-more (IsKnownSymbol nullable false) right place x inside h.front (subst (λ y. IsKnownSymbol nullable false y) (sym is) known);
+    front = All-more (IsKnownSymbol nullable Empty) right place x inside h.front (subst (λ y. IsKnownSymbol nullable Empty y) (sym is) known);
     kept = λ o has. Contains-append_left now (opening left x ∷ []) o (h.kept o has);
     added = λ k y less at. opened_at h k y (omega arith) at;
     only = opened_only h;
@@ -63,13 +64,13 @@ module _ (nullable : List Bool) (left : ℕ) (right : List Sym) (place : ℕ) (o
   }
 
   -- a symbol that isn't a nullable name is the last that is visible
-  pub opened_last : AreOpenedTo nullable left right place old now → ¬ (IsKnownSymbol nullable false x) → HasOpeningsOf nullable left right old (now ++ opening left x ∷ [])
+  pub opened_last : AreOpenedTo nullable left right place old now → ¬ (IsKnownSymbol nullable Empty x) → HasOpeningsOf nullable left right old (now ++ opening left x ∷ [])
   opened_last h unknown = record {
     kept = λ o has. Contains-append_left now (opening left x ∷ []) o (h.kept o has);
     added = λ y seen. elim (cases_lt place seen.0) [
       | inl less ↦
           let long : place < length (take seen.0 right) = omega (arith, length-take-le seen.0 right (omega (arith, seen.1))) in
-          absurd (unknown (subst (λ z. IsKnownSymbol nullable false z) (get_or-take seen.0 right place x less ∙ is) (seen.3 place x long)))
+          absurd (unknown (subst (λ z. IsKnownSymbol nullable Empty z) (get_or-take seen.0 right place x less ∙ is) (seen.3 place x long)))
       | inr more ↦ opened_at h seen.0 y (omega arith) seen.2
     ];
     only = opened_only h;

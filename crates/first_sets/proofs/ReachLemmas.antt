@@ -12,7 +12,7 @@ use Rattle.grammar_theory.specs.UsefulNames.{IsReachable, IsLedTo, at_start, in_
 use Rattle.grammar_theory.proofs.UsefulLemmas.{reachable_led}
 use Rattle.grammar_theory.proofs.NameLaws.{reachable_test_law}
 use Rattle.first_sets.specs.Relations.{HasPair, IsExtended}
-use Rattle.first_sets.specs.KnownNames.{is_known, AreSteps}
+use Rattle.first_sets.specs.KnownNames.{is_known, AreMentions}
 use Rattle.first_sets.proofs.UseLemmas.{contains_none}
 use Rattle.first_sets.proofs.KnownLemmas.{unmarked, true_is, known_set, set_known, set_itself}
 
@@ -60,13 +60,13 @@ reach_known g pairs known rest name is s = record {
     ]
 
 -- a name becomes known, and what it leads to pending
-pub reach_new : (g : Grammar) (pairs : List (ℕ × ℕ)) (known : List Bool) (rest new : List ℕ) (name : ℕ) → name < length known → AreSteps g.rules pairs → IsExtended pairs name rest new
+pub reach_new : (g : Grammar) (pairs : List (ℕ × ℕ)) (known : List Bool) (rest new : List ℕ) (name : ℕ) → name < length known → AreMentions g.rules pairs → IsExtended pairs name rest new
     → IsReaching g pairs known (rest ++ name ∷ []) → IsReaching g pairs (set known name true) new
-reach_new g pairs known rest new name inside steps more s = record {
+reach_new g pairs known rest new name inside mentions more s = record {
   names = length-set known name true ∙ s.names;
   led = λ n has. elim (more.only n has) [
     | inl before ↦ s.led n (Contains-append_left rest (name ∷ []) n before)
-    | inr pair ↦ let found = steps.only name n pair in in_right (s.led name here) found.2 found.3
+    | inr pair ↦ let found = mentions.only name n pair in in_right (s.led name here) found.2 found.3
   ];
   sound = λ n is. elim (known_set known name n inside is) [
     | inl e ↦ subst (λ k. IsLedTo g k) (sym e) (s.led name here)
@@ -88,13 +88,13 @@ reach_new g pairs known rest new name inside steps more s = record {
       | inr e ↦ inl (subst (λ k. IsTrue (is_known (set known name true) k)) e (set_itself known name inside))
     ]
 
-pub reach_done : (g : Grammar) (pairs : List (ℕ × ℕ)) (known : List Bool) (pending : List ℕ) → length pending ≡ 0 → AreSteps g.rules pairs → IsReaching g pairs known pending
+pub reach_done : (g : Grammar) (pairs : List (ℕ × ℕ)) (known : List Bool) (pending : List ℕ) → length pending ≡ 0 → AreMentions g.rules pairs → IsReaching g pairs known pending
     → (n : ℕ) → IsTrue (is_known known n) ↔ IsReachable g n
-reach_done g pairs known pending none steps s n =
+reach_done g pairs known pending none mentions s n =
     reachable_test_law g (is_known known) (record {
       sound = λ m is. reachable_led g (s.sound m is);
       start = fine g.start s.start;
-      closed = λ r m k right is rule has. fine k (s.closed m k is (steps.every r m k right rule has));
+      closed = λ r m k right is rule has. fine k (s.closed m k is (mentions.every r m k right rule has));
     }) n
   where
     fine : (k : ℕ) → IsTrue (is_known known k) ⊎ Contains pending k → IsTrue (is_known known k)

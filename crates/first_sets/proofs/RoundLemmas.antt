@@ -11,6 +11,7 @@ use Rattle.grammar_theory.specs.EmptyNames.{IsNullable, AddsUp, IsSizedBelow}
 use Rattle.grammar_theory.proofs.RuleLemmas.{rule_once, slice_get_cases}
 use Rattle.grammar_theory.proofs.EmptyLemmas.{derives_of_vanishes}
 use Rattle.grammar_theory.proofs.SizeLemmas.{one_size, first_round, next_round}
+use Rattle.first_sets.specs.declared.known_names.Lists.TheVariants.{Empty}
 use Rattle.first_sets.specs.NameFacts.{size_of}
 use Rattle.first_sets.specs.KnownNames.{IsKnownSymbol, is_known}
 use Rattle.first_sets.specs.EmptySizes.{AreEmptyRules, AreSized, IsRound, IsSizedBy, size_in, symbol_size_in}
@@ -79,10 +80,10 @@ adds_back old new k back (Name n ∷ xs) total within sum =
     ]
 
 -- names that add up are nullable, if sized names are
-adds_nullable : (nullable : List Bool) (table : ℕ → Option ℕ) → ((n j : ℕ) → table n ≡ Some j → IsTrue (is_known nullable n)) → (xs : List Sym) (total : ℕ) → AddsUp table xs total → All (IsKnownSymbol nullable false) xs
-adds_nullable nullable table sized [] total sum = All-nil (IsKnownSymbol nullable false)
+adds_nullable : (nullable : List Bool) (table : ℕ → Option ℕ) → ((n j : ℕ) → table n ≡ Some j → IsTrue (is_known nullable n)) → (xs : List Sym) (total : ℕ) → AddsUp table xs total → All (IsKnownSymbol nullable Empty) xs
+adds_nullable nullable table sized [] total sum = All-nil (IsKnownSymbol nullable Empty)
 adds_nullable nullable table sized (Token a ∷ xs) total sum = absurd sum
-adds_nullable nullable table sized (Name n ∷ xs) total sum = All-cons (IsKnownSymbol nullable false) (Name n) xs (sized n sum.0 sum.2) (adds_nullable nullable table sized xs sum.1 sum.3)
+adds_nullable nullable table sized (Name n ∷ xs) total sum = All-cons (IsKnownSymbol nullable Empty) (Name n) xs (sized n sum.0 sum.2) (adds_nullable nullable table sized xs sum.1 sum.3)
 
 -- ---- the rules of a round
 
@@ -105,12 +106,12 @@ empty_rule front left side nullable numbers all = record {
   ];
 }
 
-pub other_rule : (front : List Rule) (left : ℕ) (side : List Sym) (nullable : List Bool) (numbers : List ℕ) → (All (IsKnownSymbol nullable false) side → ⊥) → AreEmptyRules front nullable numbers
+pub other_rule : (front : List Rule) (left : ℕ) (side : List Sym) (nullable : List Bool) (numbers : List ℕ) → (All (IsKnownSymbol nullable Empty) side → ⊥) → AreEmptyRules front nullable numbers
     → AreEmptyRules (front ++ (left, side) ∷ []) nullable numbers
 other_rule front left side nullable numbers unknown all = record {
   every = λ r n right rule known. elim (slice_get_cases front (left, side) (n, right) r rule.found) [
     | inl found ↦ all.every r n right (record { found = found }) known
-    | inr last ↦ let same : side ≡ right = ap (λ q. q.1) last.1 in absurd (unknown (subst (λ xs. All (IsKnownSymbol nullable false) xs) (sym same) known))
+    | inr last ↦ let same : side ≡ right = ap (λ q. q.1) last.1 in absurd (unknown (subst (λ xs. All (IsKnownSymbol nullable Empty) xs) (sym same) known))
   ];
   only = λ r has. (let less = all.only r has in omega (arith, length-append front ((left, side) ∷ [])));
 }

@@ -11,7 +11,7 @@ use Rattle.grammar_theory.specs.Rules.{IsRule}
 use Rattle.grammar_theory.proofs.RuleLemmas.{rule_once, slice_get_last, slice_get_cases}
 use Rattle.grammar_theory.proofs.DerivationLemmas.{rule_kept}
 use Rattle.first_sets.specs.Relations.{HasPair}
-use Rattle.first_sets.specs.KnownNames.{HasNamesOf, AreUses, AreSteps}
+use Rattle.first_sets.specs.KnownNames.{HasNamesOf, AreUses, AreMentions}
 
 -- nothing is an element of the empty list
 pub contains_none : {X : Type 0} {x : X} → Contains [] x → ⊥
@@ -92,38 +92,38 @@ use_in_range rules pairs m r uses has = let found = uses.only m r has in slice_g
 -- ---- from left sides to names
 
 -- the pairs are those of these uses
-pub record AreStepsOf (rules : List Rule) (uses pairs : List (ℕ × ℕ)) : Type 0 where
+pub record AreMentionsOf (rules : List Rule) (uses pairs : List (ℕ × ℕ)) : Type 0 where
   pub every : (m r n : ℕ) (right : List Sym) → HasPair uses m r → IsRule rules r n right → HasPair pairs n m
   pub only : (n m : ℕ) → HasPair pairs n m → (r : ℕ) × (right : List Sym) × IsRule rules r n right × Contains right (Name m)
 
-pub steps_none : (rules : List Rule) → AreStepsOf rules [] []
-steps_none rules = record {
+pub mentions_none : (rules : List Rule) → AreMentionsOf rules [] []
+mentions_none rules = record {
   every = λ m r n right has rule. absurd (contains_none has);
   only = λ n m has. absurd (contains_none has);
 }
 
-pub steps_more : (rules : List Rule) (uses pairs : List (ℕ × ℕ)) (name number left : ℕ) (side : List Sym) → IsRule rules number left side → Contains side (Name name)
-    → AreStepsOf rules uses pairs → AreStepsOf rules (uses ++ (name, number) ∷ []) (pairs ++ (left, name) ∷ [])
-steps_more rules uses pairs name number left side is stands steps = record {
+pub mentions_more : (rules : List Rule) (uses pairs : List (ℕ × ℕ)) (name number left : ℕ) (side : List Sym) → IsRule rules number left side → Contains side (Name name)
+    → AreMentionsOf rules uses pairs → AreMentionsOf rules (uses ++ (name, number) ∷ []) (pairs ++ (left, name) ∷ [])
+mentions_more rules uses pairs name number left side is stands mentions = record {
   every = λ m r n right has rule. elim (Contains-push_cases uses (name, number) (m, r) has) [
-    | inl before ↦ Contains-append_left pairs ((left, name) ∷ []) (n, m) (steps.every m r n right before rule)
+    | inl before ↦ Contains-append_left pairs ((left, name) ∷ []) (n, m) (mentions.every m r n right before rule)
     | inr e ↦
         let same = same_pair e in
         let left_is : left ≡ n = (rule_once is (subst (λ j. IsRule rules j n right) (sym same.1) rule)).0 in
         subst (λ j. HasPair (pairs ++ (left, name) ∷ []) j m) left_is (subst (λ j. HasPair (pairs ++ (left, name) ∷ []) left j) same.0 (Contains-push pairs (left, name)))
   ];
   only = λ n m has. elim (Contains-push_cases pairs (left, name) (n, m) has) [
-    | inl before ↦ steps.only n m before
+    | inl before ↦ mentions.only n m before
     | inr e ↦
         let same = same_pair e in
         (number, side, subst (λ j. IsRule rules number j side) same.0 is, subst (λ j. Contains side (Name j)) same.1 stands)
   ];
 }
 
-pub steps_done : (rules : List Rule) (uses pairs : List (ℕ × ℕ)) → AreUses rules uses → AreStepsOf rules uses pairs → AreSteps rules pairs
-steps_done rules uses pairs all steps = record {
-  every = λ r n m right rule has. steps.every m r n right (all.every r n m right rule has) rule;
-  only = steps.only;
+pub mentions_done : (rules : List Rule) (uses pairs : List (ℕ × ℕ)) → AreUses rules uses → AreMentionsOf rules uses pairs → AreMentions rules pairs
+mentions_done rules uses pairs all mentions = record {
+  every = λ r n m right rule has. mentions.every m r n right (all.every r n m right rule has) rule;
+  only = mentions.only;
 }
 
 -- the left side that is read of a rule

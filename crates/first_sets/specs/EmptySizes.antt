@@ -5,6 +5,7 @@ use Rattle.grammar_data.specs.declared.rule.Sym.TheVariants.{Token, Name}
 use Rattle.grammar_data.specs.Grammar.{Rule, Grammar}
 use Rattle.grammar_theory.specs.Rules.{IsRule}
 use Rattle.grammar_theory.specs.EmptyNames.{AddsUp, HasRightSide}
+use Rattle.first_sets.specs.declared.known_names.Lists.TheVariants.{Empty}
 use Rattle.first_sets.specs.NameFacts.{size_of}
 use Rattle.first_sets.specs.KnownNames.{IsKnownSymbol, is_known}
 
@@ -17,7 +18,7 @@ symbol_size_in sizes (Name n) = slice_index sizes n
 
 -- the numbers of the rules whose right sides are nullable names alone
 pub record AreEmptyRules (rules : List Rule) (nullable : List Bool) (numbers : List ℕ) : Type 0 where
-  pub every : (r n : ℕ) (right : List Sym) → IsRule rules r n right → All (IsKnownSymbol nullable false) right → Contains numbers r
+  pub every : (r n : ℕ) (right : List Sym) → IsRule rules r n right → All (IsKnownSymbol nullable Empty) right → Contains numbers r
   pub only : (r : ℕ) → Contains numbers r → r < length rules
 
 -- each nullable name below the bound has a size

@@ -7,13 +7,14 @@ use Rattle.lr_base.specs.IsGrammar.{IsSymbolOf}
 use Rattle.lr_base.specs.TokenSet.{IsTokenSet, has_token}
 use Rattle.grammar_theory.specs.FirstTokens.{FirstHas}
 use Rattle.grammar_theory.specs.Rules.{IsRule}
+use Rattle.first_sets.specs.declared.known_names.Lists.TheVariants.{Empty}
 use Rattle.first_sets.specs.declared.opening.Opening.{Opening}
 use Rattle.first_sets.specs.Relations.{HasPair}
 use Rattle.first_sets.specs.KnownNames.{IsKnownSymbol}
 
 -- the symbol stands in the list behind nullable names alone
 abbrev pub IsVisible : List Bool → List Sym → Sym → Type 0
-IsVisible nullable xs x = (k : ℕ) × (k < length xs) × (slice_index_or xs k x ≡ x) × All (IsKnownSymbol nullable false) (take k xs)
+IsVisible nullable xs x = (k : ℕ) × (k < length xs) × (slice_index_or xs k x ≡ x) × All (IsKnownSymbol nullable Empty) (take k xs)
 
 abbrev pub opening : ℕ → Sym → Opening
 opening n x = record { left = n; symbol = x }

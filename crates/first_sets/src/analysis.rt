@@ -6,20 +6,20 @@ ghost use Rattle.grammar_theory.specs.UselessNames.{AllReachable, IsUseful};
 ghost use Rattle.grammar_theory.specs.EmptyNames.{IsNullable};
 ghost use Rattle.grammar_theory.specs.FirstTokens.{FirstHas};
 ghost use Rattle.first_sets.specs.EmptySizes.{AreKnownBelow, IsLeastUnknown};
-ghost use Rattle.first_sets.specs.KnownNames.{AreSteps, AreUses, is_known};
+ghost use Rattle.first_sets.specs.KnownNames.{AreMentions, AreUses, is_known};
 ghost use Rattle.first_sets.specs.NameFacts.{AreFirsts, AreSizes};
 ghost use Rattle.first_sets.specs.Openings.{set_at};
-ghost use Rattle.first_sets.specs.NameFaults.{IsDue, OneNameFaultLaw, UsefulLaw};
+ghost use Rattle.first_sets.specs.NameFaults.{IsDue};
 
 use crate::empty_size::{empty_sizes, least_unsized};
 use crate::fault::UselessFault;
 use crate::first_tokens::first_tokens;
 use crate::firsts::Firsts;
-use crate::known_names::known_names;
+use crate::known_names::{Lists, known_names};
 use crate::opening::{openings_of, readers_of};
 use crate::reached_names::reached_names;
 use crate::relation::Relation;
-use crate::uses::{steps_of_names, uses_of_names};
+use crate::uses::{mentions_of_names, uses_of_names};
 use grammar_data::NameId;
 use lr_base::{Grammar, NoMemory, TokenSet};
 use std::alloc::Global;
@@ -44,7 +44,7 @@ fn check_productive(alloc: Global, grammar: &Grammar, uses: &Relation) -> Result
     requires keys { uses.now.keys ≡ grammar.now.names }
     ensures { MatchResult result (λ _. AllProductive grammar.now) (IsDue grammar.now) }
 {
-    let productive = known_names(alloc, grammar, uses, true)?;
+    let productive = known_names(alloc, grammar, uses, Lists::Any)?;
     match least_unknown(&productive) {
         None => Ok(()),
         Some(name) => Err(UselessFault::Unproductive(name)),
@@ -52,14 +52,18 @@ fn check_productive(alloc: Global, grammar: &Grammar, uses: &Relation) -> Result
 }
 
 /// Whether all names are reachable.
-fn check_reachable(alloc: Global, grammar: &Grammar, steps: &Relation) -> Result<(), UselessFault>
+fn check_reachable(
+    alloc: Global,
+    grammar: &Grammar,
+    mentions: &Relation,
+) -> Result<(), UselessFault>
     requires grammar { IsGrammar grammar.now }
     requires productive { AllProductive grammar.now }
-    requires steps { AreSteps grammar.now.rules steps.now.pairs }
-    requires keys { steps.now.keys ≡ grammar.now.names }
+    requires mentions { AreMentions grammar.now.rules mentions.now.pairs }
+    requires keys { mentions.now.keys ≡ grammar.now.names }
     ensures { MatchResult result (λ _. AllReachable grammar.now) (IsDue grammar.now) }
 {
-    let reached = reached_names(alloc, grammar, steps)?;
+    let reached = reached_names(alloc, grammar, mentions)?;
     match least_unknown(&reached) {
         None => Ok(()),
         Some(name) => Err(UselessFault::Unreachable(name)),
@@ -100,8 +104,7 @@ fn first_sets(
     ensures count { IfOk result (λ sets. length sets.items ≡ grammar.now.names) }
 {
     let openings = openings_of(alloc, grammar, nullable)?;
-    let readers = readers_of(alloc, &openings)?;
-    let readers = Relation::new(alloc, readers, grammar.names())?;
+    let readers = readers_of(alloc, &openings, grammar.names())?;
     let sets = first_tokens(alloc, grammar, &openings, &readers)?;
     Ok(sets)
 }
@@ -114,21 +117,13 @@ pub fn analyse(alloc: Global, grammar: &Grammar) -> Result<Firsts, UselessFault>
     ensures facts { IfOk result (λ firsts. AreFirsts grammar.now firsts) }
     ensures due { IfErr result (λ fault. IsDue grammar.now fault) }
 {
-    let names = grammar.names();
+    let _rules = grammar.rules();
     let uses = uses_of_names(alloc, grammar)?;
-    let steps = steps_of_names(alloc, grammar, &uses)?;
-    let uses = Relation::new(alloc, uses, names)?;
-    let steps = Relation::new(alloc, steps, names)?;
     check_productive(alloc, grammar, &uses)?;
-    check_reachable(alloc, grammar, &steps)?;
-    let nullable = known_names(alloc, grammar, &uses, false)?;
+    let mentions = mentions_of_names(alloc, grammar, &uses)?;
+    check_reachable(alloc, grammar, &mentions)?;
+    let nullable = known_names(alloc, grammar, &uses, Lists::Empty)?;
     let sizes = checked_sizes(alloc, grammar, &nullable)?;
     let sets = first_sets(alloc, grammar, &nullable)?;
     Ok(Firsts::new(sets, sizes))
 }
-
-/// One answer is due: no fault where all names are useful, and else one fault, unless memory runs out.
-pub fn one_answer()
-    ensures useful { UsefulLaw }
-    ensures one_fault { OneNameFaultLaw }
-{}

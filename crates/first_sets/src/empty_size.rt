@@ -4,7 +4,7 @@ ghost use Rattle.grammar_theory.specs.EmptyNames.{AddsUp, IsNullable, IsSizedBel
 ghost use Rattle.first_sets.specs.EmptySizes.{AreEmptyRules, AreSized, IsLeastUnsized, IsRound, IsSizedBy, size_in, symbol_size_in};
 ghost use Rattle.first_sets.specs.KnownNames.{is_known};
 
-use crate::known_names::are_known;
+use crate::known_names::{Lists, are_known};
 use grammar_data::{NameId, RuleId, Sym};
 use lr_base::{Grammar, NoMemory};
 use std::alloc::Global;
@@ -18,7 +18,7 @@ fn empty_rules(alloc: Global, grammar: &Grammar, nullable: &[bool]) -> Result<Ve
 {
     let mut numbers = Vec::new(alloc);
     for (number, rule) in grammar.rules().iter().enumerate() {
-        if are_known(&rule.right, nullable, false) {
+        if are_known(&rule.right, nullable, Lists::Empty) {
             numbers.push(number as u32)?;
         }
     }

@@ -45,8 +45,7 @@ impl Firsts {
 
     /// Whether some token list that the name derives begins with the token.
     pub fn first_has(&self, name: NameId, token: TokenId) -> bool
-        requires name { name < names_in self.now }
-        requires token { token < 256 }
+        requires { name < names_in self.now }
         ensures { result ≡ has_token (first_set_in self.now name) token }
     {
         self.sets[name.0 as usize].has(token)

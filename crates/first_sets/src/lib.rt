@@ -7,11 +7,13 @@ mod fault;
 mod first_tokens;
 mod firsts;
 mod known_names;
+mod laws;
 mod opening;
 mod reached_names;
 mod relation;
 mod uses;
 
-pub use analysis::{analyse, one_answer};
+pub use analysis::analyse;
 pub use fault::UselessFault;
 pub use firsts::Firsts;
+pub use laws::name_fault_laws;

@@ -1,7 +1,8 @@
-ghost use Rattle.std.specs.Prelude.{◌≡◌, ◌≤◌, length, IfOk, OnOk};
-ghost use Rattle.first_sets.specs.Openings.{AreOpenings, AreReaders, HasOpeningsOf};
+ghost use Rattle.std.specs.Prelude.{◌≡◌, ◌≤◌, length, All, IfOk, OnOk};
+ghost use Rattle.first_sets.specs.Openings.{AreOpenings, AreReaders, HasOpeningsOf, IsOpeningOf};
 
-use crate::known_names::is_known_symbol;
+use crate::known_names::{Lists, is_known_symbol};
+use crate::relation::Relation;
 use grammar_data::{NameId, Sym};
 use lr_base::{Grammar, NoMemory};
 use std::alloc::Global;
@@ -28,7 +29,7 @@ fn push_openings(
             left,
             symbol: *symbol,
         })?;
-        if !is_known_symbol(*symbol, nullable, false) {
+        if !is_known_symbol(*symbol, nullable, Lists::Empty) {
             return Ok(());
         }
     }
@@ -52,7 +53,7 @@ pub fn openings_of(
 }
 
 /// The names that are symbols of openings, each with the place of the opening.
-pub fn readers_of(alloc: Global, openings: &[Opening]) -> Result<Vec<(u32, u32)>, NoMemory>
+fn pairs_of_readers(alloc: Global, openings: &[Opening]) -> Result<Vec<(u32, u32)>, NoMemory>
     requires { length openings.now ≤ 4000 }
     ensures readers { IfOk result (λ pairs. AreReaders openings.now pairs.items) }
     ensures few { IfOk result (λ pairs. length pairs.items ≤ length openings.now) }
@@ -64,4 +65,15 @@ pub fn readers_of(alloc: Global, openings: &[Opening]) -> Result<Vec<(u32, u32)>
         }
     }
     Ok(pairs)
+}
+
+/// For each name the places of the openings whose symbol it is.
+pub fn readers_of(alloc: Global, openings: &[Opening], names: u32) -> Result<Relation, NoMemory>
+    requires few { length openings.now ≤ 4000 }
+    requires range { All (IsOpeningOf names) openings.now }
+    ensures readers { IfOk result (λ readers. AreReaders openings.now readers.pairs) }
+    ensures keys { IfOk result (λ readers. readers.keys ≡ names) }
+{
+    let pairs = pairs_of_readers(alloc, openings)?;
+    Relation::new(alloc, pairs, names)
 }

@@ -1,7 +1,7 @@
 ghost use Rattle.std.specs.Prelude.{◌≡◌, ◌↔◌, ℕ, length, IfOk, IsTrue};
 ghost use Rattle.lr_base.specs.IsGrammar.{IsGrammar};
 ghost use Rattle.grammar_theory.specs.UsefulNames.{IsReachable};
-ghost use Rattle.first_sets.specs.KnownNames.{AreSteps, is_known};
+ghost use Rattle.first_sets.specs.KnownNames.{AreMentions, is_known};
 
 use crate::relation::Relation;
 use lr_base::{Grammar, NoMemory};
@@ -12,11 +12,11 @@ use std::alloc::Global;
 pub fn reached_names(
     alloc: Global,
     grammar: &Grammar,
-    steps: &Relation,
+    mentions: &Relation,
 ) -> Result<Vec<bool>, NoMemory>
     requires grammar { IsGrammar grammar.now }
-    requires steps { AreSteps grammar.now.rules steps.now.pairs }
-    requires keys { steps.now.keys ≡ grammar.now.names }
+    requires mentions { AreMentions grammar.now.rules mentions.now.pairs }
+    requires keys { mentions.now.keys ≡ grammar.now.names }
     ensures known { IfOk result (λ known. (n : ℕ) → IsTrue (is_known known.items n) ↔ IsReachable grammar.now n) }
     ensures count { IfOk result (λ known. length known.items ≡ grammar.now.names) }
 {
@@ -26,7 +26,7 @@ pub fn reached_names(
     while let Some(name) = pending.pop() {
         if !known[name as usize] {
             known[name as usize] = true;
-            steps.push_all(name, &mut pending)?;
+            mentions.push_all(name, &mut pending)?;
         }
     }
     Ok(known)

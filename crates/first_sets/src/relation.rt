@@ -57,6 +57,13 @@ impl Relation {
         })
     }
 
+    /// All pairs.
+    pub fn pairs(&self) -> &[(u32, u32)]
+        ensures { result.now ≡ self.now.pairs }
+    {
+        &self.pairs
+    }
+
     /// Puts each value of the key to the end of `values`, in time proportional to their number. After want of memory
     /// some of them are there.
     pub fn push_all(&self, key: u32, values: &mut Vec<u32>) -> Result<(), NoMemory>

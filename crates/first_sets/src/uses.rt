@@ -1,7 +1,8 @@
 ghost use Rattle.std.specs.Prelude.{◌≡◌, ◌≤◌, length, IfOk, OnOk};
 ghost use Rattle.lr_base.specs.IsGrammar.{IsGrammar};
-ghost use Rattle.first_sets.specs.KnownNames.{AreSteps, AreUses, HasNamesOf};
+ghost use Rattle.first_sets.specs.KnownNames.{AreMentions, AreUses, HasNamesOf};
 
+use crate::relation::Relation;
 use grammar_data::{RuleId, Sym};
 use lr_base::{Grammar, NoMemory};
 use std::alloc::Global;
@@ -18,11 +19,10 @@ fn push_names(right: &[Sym], number: u32, pairs: &mut Vec<(u32, u32)>) -> Result
     Ok(())
 }
 
-/// The names of all right sides, each with the number of the rule that it stands in; and what holds of every grammar.
-pub fn uses_of_names(alloc: Global, grammar: &Grammar) -> Result<Vec<(u32, u32)>, NoMemory>
+/// The names of all right sides, each with the number of the rule that it stands in.
+fn pairs_of_uses(alloc: Global, grammar: &Grammar) -> Result<Vec<(u32, u32)>, NoMemory>
     ensures uses { IfOk result (λ pairs. AreUses grammar.now.rules pairs.items) }
     ensures few { IfOk result (λ pairs. length pairs.items ≤ 4000) }
-    ensures grammar { IfOk result (λ _. IsGrammar grammar.now) }
 {
     let mut pairs = Vec::new(alloc);
     for (number, rule) in grammar.rules().iter().enumerate() {
@@ -31,14 +31,25 @@ pub fn uses_of_names(alloc: Global, grammar: &Grammar) -> Result<Vec<(u32, u32)>
     Ok(pairs)
 }
 
-/// The names of all right sides, each behind the left side of the rule that it stands in.
-pub fn steps_of_names(
+/// For each name the rules in whose right sides it stands.
+pub fn uses_of_names(alloc: Global, grammar: &Grammar) -> Result<Relation, NoMemory>
+    requires { IsGrammar grammar.now }
+    ensures uses { IfOk result (λ uses. AreUses grammar.now.rules uses.pairs) }
+    ensures keys { IfOk result (λ uses. uses.keys ≡ grammar.now.names) }
+    ensures few { IfOk result (λ uses. length uses.pairs ≤ 4000) }
+{
+    let pairs = pairs_of_uses(alloc, grammar)?;
+    Relation::new(alloc, pairs, grammar.names())
+}
+
+/// The left sides of rules, each with the names of its right sides.
+fn pairs_of_mentions(
     alloc: Global,
     grammar: &Grammar,
     uses: &[(u32, u32)],
 ) -> Result<Vec<(u32, u32)>, NoMemory>
     requires { AreUses grammar.now.rules uses.now }
-    ensures steps { IfOk result (λ pairs. AreSteps grammar.now.rules pairs.items) }
+    ensures mentions { IfOk result (λ pairs. AreMentions grammar.now.rules pairs.items) }
     ensures count { IfOk result (λ pairs. length pairs.items ≡ length uses.now) }
 {
     let mut pairs = Vec::new(alloc);
@@ -46,4 +57,20 @@ pub fn steps_of_names(
         pairs.push((grammar.left(RuleId(*rule)).0, *name))?;
     }
     Ok(pairs)
+}
+
+/// For each name the names of the right sides of its rules.
+pub fn mentions_of_names(
+    alloc: Global,
+    grammar: &Grammar,
+    uses: &Relation,
+) -> Result<Relation, NoMemory>
+    requires grammar { IsGrammar grammar.now }
+    requires uses { AreUses grammar.now.rules uses.now.pairs }
+    requires few { length uses.now.pairs ≤ 4000 }
+    ensures mentions { IfOk result (λ mentions. AreMentions grammar.now.rules mentions.pairs) }
+    ensures keys { IfOk result (λ mentions. mentions.keys ≡ grammar.now.names) }
+{
+    let pairs = pairs_of_mentions(alloc, grammar, uses.pairs())?;
+    Relation::new(alloc, pairs, grammar.names())
 }

@@ -1,15 +1,13 @@
-use Rattle.std.proofs.Common.{◌<◌, ℕ, All, sym, subst}
-use Rattle.first_sets.specs.Openings.{IsFilled, IsOpeningOf, PassesOn, AreReaders}
-use Rattle.first_sets.proofs.FactLemmas.{openings_in_range, readers_below, passes_on, first_exactly}
+use Rattle.std.proofs.Common.{All, sym, subst}
+use Rattle.first_sets.specs.Openings.{IsFilled, IsOpeningOf, PassesOn}
+use Rattle.first_sets.proofs.FactLemmas.{openings_in_range, passes_on, first_exactly}
 use Rattle.first_sets.proofs.analysis.first_sets.Goals as goal
 
-pub new-requires-clause-keys : goal.new-requires-clause-keys
-new-requires-clause-keys c =
-    let g = c.args.grammar.now in
-    let openings = c.in_ok-openings.openings.items in
-    let readers : AreReaders openings c.in_ok-readers.readers.items = subst (λ l. AreReaders l c.in_ok-readers.readers.items) c.deref.ensures.value c.in_ok-readers.ensures.readers in
-    subst (λ n. All (λ (pair : ℕ × ℕ). pair.0 < n) c.in_ok-readers.readers.items) (sym c.names.ensures)
-    (readers_below g openings c.in_ok-readers.readers.items (openings_in_range g c.args.nullable.now openings c.requires.grammar c.in_ok-openings.ensures.openings) readers)
+pub readers_of-requires-clause-range : goal.readers_of-requires-clause-range
+readers_of-requires-clause-range c =
+    let range = openings_in_range c.args.grammar.now c.args.nullable.now c.in_ok-openings.openings.items c.requires.grammar c.in_ok-openings.ensures.openings in
+    subst (λ n. All (IsOpeningOf n) c.deref.result.now) (sym c.names.ensures)
+    (subst (λ l. All (IsOpeningOf c.args.grammar.now.names) l) (sym c.deref.ensures.value) range)
 
 pub first_tokens-requires-clause-range : goal.first_tokens-requires-clause-range
 first_tokens-requires-clause-range c =

@@ -1,7 +1,8 @@
-use Rattle.std.proofs.Common.{◌≡◌, ◌+◌, ◌<◌, false, [], ◌∷◌, ◌++◌, length, get_or, take, All, sym, ap, subst, ◌∙◌, arith}
+use Rattle.std.proofs.Common.{◌≡◌, ◌+◌, ◌<◌, [], ◌∷◌, ◌++◌, length, get_or, take, All, sym, ap, subst, ◌∙◌, arith}
 use Rattle.std.proofs.lemmas.Bool.{false≢true}
 use Rattle.std.proofs.lemmas.List.{take_more, length-take-le}
 use Rattle.grammar_data.specs.Grammar.{Rule}
+use Rattle.first_sets.specs.declared.known_names.Lists.TheVariants.{Empty}
 use Rattle.first_sets.specs.KnownNames.{IsKnownSymbol}
 use Rattle.first_sets.specs.EmptySizes.{AreEmptyRules}
 use Rattle.first_sets.proofs.RoundLemmas.{empty_rule, other_rule}
@@ -31,5 +32,5 @@ loop-number-preserved c =
           (empty_rule (take i rules) left side nullable numbers c.loop-number.invariant)))
       | else-are_known w ↦
           subst (λ v. AreEmptyRules (take i rules ++ (left, side) ∷ []) nullable v.items) (sym w.numbers-is)
-          (other_rule (take i rules) left side nullable numbers (λ all. false≢true (sym w.if-are_known.false ∙ c.are_known.ensures.1 (subst (λ l. All (IsKnownSymbol nullable false) l) (sym c.deref.ensures.value) all))) c.loop-number.invariant)
+          (other_rule (take i rules) left side nullable numbers (λ all. false≢true (sym w.if-are_known.false ∙ c.are_known.ensures.1 (subst (λ l. All (IsKnownSymbol nullable Empty) l) (sym c.deref.ensures.value) all))) c.loop-number.invariant)
     ])

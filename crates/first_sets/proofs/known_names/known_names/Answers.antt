@@ -11,7 +11,7 @@ loop-rule-init c =
     let none : c.in_ok-known.known.items ≡ replicate g.names false = c.in_ok-known.ensures.items_if_clones_equal (λ y e. e) ∙ ap (λ n. replicate n false) c.names.ensures in
     let all : (r : ℕ) → r < length g.rules → Contains c.in_ok-pending.pending.items r = λ r less. (c.in_ok-pending.ensures.members r).1 (omega (arith, c.rule_count.ensures)) in
     let within : (r : ℕ) → Contains c.in_ok-pending.pending.items r → r < length g.rules = λ r has. (let less = (c.in_ok-pending.ensures.members r).0 has in omega (arith, c.rule_count.ensures)) in
-    subst (λ l. IsSpreading g c.args.tokens l c.in_ok-pending.pending.items) (sym none) (spread_none g c.args.tokens c.in_ok-pending.pending.items all within)
+    subst (λ l. IsSpreading g c.args.lists l c.in_ok-pending.pending.items) (sym none) (spread_none g c.args.lists c.in_ok-pending.pending.items all within)
 
 pub mark_left-requires-clause-rule : goal.mark_left-requires-clause-rule
 mark_left-requires-clause-rule c =
@@ -32,8 +32,8 @@ loop-rule-preserved-in-Continue-branch-3 c =
     let marked = c.if-mark_left.ensures in
     let read : marked.left ≡ left =
     (rule_once marked.rule (left_is g.rules r marked.left c.left.result marked.right marked.rule c.left.ensures.left)).0 ∙ sym c.push_all.view_is in
-    let s : IsSpreading g c.args.tokens known (rest ++ r ∷ []) = subst (λ l. IsSpreading g c.args.tokens known l) c.in-Some.ensures.items c.loop-rule.invariant in
-    spread_marked g c.args.tokens known rest new r left c.args.uses.now.pairs c.mark_left.new.known.items marked read c.requires.uses c.in_ok-push_all.ensures
+    let s : IsSpreading g c.args.lists known (rest ++ r ∷ []) = subst (λ l. IsSpreading g c.args.lists known l) c.in-Some.ensures.items c.loop-rule.invariant in
+    spread_marked g c.args.lists known rest new r left c.args.uses.now.pairs c.mark_left.new.known.items marked read c.requires.uses c.in_ok-push_all.ensures
     (sym c.loop-rule.invariant.names) (omega (arith, c.push_all.view_is, c.left.ensures.in_range)) s
 
 pub loop-rule-preserved : goal.loop-rule-preserved
@@ -41,9 +41,9 @@ loop-rule-preserved c =
     let g = c.args.grammar.now in
     let rest = c.pop.new.self.items in
     let known = c.loop-rule.known.items in
-    let s : IsSpreading g c.args.tokens known (rest ++ c.in-Some.rule ∷ []) = subst (λ l. IsSpreading g c.args.tokens known l) c.in-Some.ensures.items c.loop-rule.invariant in
+    let s : IsSpreading g c.args.lists known (rest ++ c.in-Some.rule ∷ []) = subst (λ l. IsSpreading g c.args.lists known l) c.in-Some.ensures.items c.loop-rule.invariant in
     let same = c.if-mark_left.ensures.1 in
-    spread_closed g c.args.tokens c.mark_left.new.known.items rest c.in-Some.rule (subst (λ l. IsSpreading g c.args.tokens l (rest ++ c.in-Some.rule ∷ [])) (sym same) s) c.if-mark_left.ensures.0
+    spread_closed g c.args.lists c.mark_left.new.known.items rest c.in-Some.rule (subst (λ l. IsSpreading g c.args.lists l (rest ++ c.in-Some.rule ∷ [])) (sym same) s) c.if-mark_left.ensures.0
 
 pub returns-clause-known : goal.returns-clause-known
-returns-clause-known c = spread_done c.args.grammar.now c.args.tokens c.loop-rule.known.items c.loop-rule.pending.items (omega (arith, c.loop-rule.pending.ok.0, c.in_default.ensures.cases.0)) c.loop-rule.invariant
+returns-clause-known c = spread_done c.args.grammar.now c.args.lists c.loop-rule.known.items c.loop-rule.pending.items (omega (arith, c.loop-rule.pending.ok.0, c.in_default.ensures.cases.0)) c.loop-rule.invariant

@@ -14,7 +14,7 @@ loop-name-init c =
     let none : c.in_ok-known.known.items ≡ replicate g.names false = c.in_ok-known.ensures.items_if_clones_equal (λ y e. e) ∙ ap (λ n. replicate n false) c.names.ensures in
     let first : c.push-2.new.self.items ≡ g.start ∷ [] =
     c.in_ok-push.ensures.items ∙ ap (λ l. l ++ c.push.inside.0 ∷ []) c.new-pending.ensures.items ∙ ap (λ n. n ∷ []) (c.push.view_is ∙ c.start.ensures) in
-    rw (none, first) (reach_start g c.args.steps.now.pairs)
+    rw (none, first) (reach_start g c.args.mentions.now.pairs)
 
 -- the popped name is below the number of names
 inside : (c : In-Some) → c.in-Some.name < length c.loop-name.known.items
@@ -35,7 +35,7 @@ pub loop-name-smaller-in-Continue-branch-3 : goal.loop-name-smaller-in-Continue-
 loop-name-smaller-in-Continue-branch-3 c =
     let known = c.loop-name.known.items in
     let name = c.in-Some.name in
-    let pairs = c.args.steps.now.pairs in
+    let pairs = c.args.mentions.now.pairs in
     let less : name < length known = inside (goal.at.loop-name-smaller-in-Continue-branch-3 c).In-Some in
     let unknown : is_known known name ≡ false = sym (get_or_read known name c.index.result.now less c.index.ensures false) ∙ c.if-not-index.true in
     let long : length c.loop-name.pending.items ≡ length c.pop.new.self.items + 1 = ap length c.in-Some.ensures.items ∙ length-append c.pop.new.self.items (name ∷ []) in
@@ -47,18 +47,18 @@ pub loop-name-preserved-in-Continue-branch-3 : goal.loop-name-preserved-in-Conti
 loop-name-preserved-in-Continue-branch-3 c =
     let known = c.loop-name.known.items in
     let less : c.in-Some.name < length known = inside (goal.at.loop-name-preserved-in-Continue-branch-3 c).In-Some in
-    let s : IsReaching c.args.grammar.now c.args.steps.now.pairs known (c.pop.new.self.items ++ c.in-Some.name ∷ []) =
-    subst (λ l. IsReaching c.args.grammar.now c.args.steps.now.pairs known l) c.in-Some.ensures.items c.loop-name.invariant in
-    reach_new c.args.grammar.now c.args.steps.now.pairs known c.pop.new.self.items c.push_all.new.values.items c.in-Some.name less c.requires.steps c.in_ok-push_all.ensures s
+    let s : IsReaching c.args.grammar.now c.args.mentions.now.pairs known (c.pop.new.self.items ++ c.in-Some.name ∷ []) =
+    subst (λ l. IsReaching c.args.grammar.now c.args.mentions.now.pairs known l) c.in-Some.ensures.items c.loop-name.invariant in
+    reach_new c.args.grammar.now c.args.mentions.now.pairs known c.pop.new.self.items c.push_all.new.values.items c.in-Some.name less c.requires.mentions c.in_ok-push_all.ensures s
 
 pub loop-name-preserved : goal.loop-name-preserved
 loop-name-preserved c =
     let known = c.loop-name.known.items in
     let less : c.in-Some.name < length known = inside (goal.at.loop-name-preserved c).In-Some in
-    let s : IsReaching c.args.grammar.now c.args.steps.now.pairs known (c.pop.new.self.items ++ c.in-Some.name ∷ []) =
-    subst (λ l. IsReaching c.args.grammar.now c.args.steps.now.pairs known l) c.in-Some.ensures.items c.loop-name.invariant in
-    reach_known c.args.grammar.now c.args.steps.now.pairs known c.pop.new.self.items c.in-Some.name (sym (get_or_read known c.in-Some.name c.index.result.now less c.index.ensures false) ∙ c.if-not-index.false) s
+    let s : IsReaching c.args.grammar.now c.args.mentions.now.pairs known (c.pop.new.self.items ++ c.in-Some.name ∷ []) =
+    subst (λ l. IsReaching c.args.grammar.now c.args.mentions.now.pairs known l) c.in-Some.ensures.items c.loop-name.invariant in
+    reach_known c.args.grammar.now c.args.mentions.now.pairs known c.pop.new.self.items c.in-Some.name (sym (get_or_read known c.in-Some.name c.index.result.now less c.index.ensures false) ∙ c.if-not-index.false) s
 
 pub returns-clause-known : goal.returns-clause-known
 returns-clause-known c =
-    reach_done c.args.grammar.now c.args.steps.now.pairs c.loop-name.known.items c.loop-name.pending.items (omega (arith, c.loop-name.pending.ok.0, c.in_default.ensures.cases.0)) c.requires.steps c.loop-name.invariant
+    reach_done c.args.grammar.now c.args.mentions.now.pairs c.loop-name.known.items c.loop-name.pending.items (omega (arith, c.loop-name.pending.ok.0, c.in_default.ensures.cases.0)) c.requires.mentions c.loop-name.invariant

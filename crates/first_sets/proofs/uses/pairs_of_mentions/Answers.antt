@@ -2,8 +2,8 @@ use Rattle.std.proofs.Common.{◌<◌, [], ◌∷◌, ◌++◌, length, get_or, 
 use Rattle.std.proofs.lemmas.List.{take_more, take_all}
 use Rattle.std.proofs.lemmas.List.Elements.{Contains-get_or}
 use Rattle.grammar_theory.specs.Rules.{IsRule}
-use Rattle.first_sets.proofs.UseLemmas.{AreStepsOf, steps_more, steps_done, use_in_range, left_is}
-use Rattle.first_sets.proofs.uses.steps_of_names.Goals as goal
+use Rattle.first_sets.proofs.UseLemmas.{AreMentionsOf, mentions_more, mentions_done, use_in_range, left_is}
+use Rattle.first_sets.proofs.uses.pairs_of_mentions.Goals as goal
 
 pub left-requires : goal.left-requires
 left-requires c =
@@ -23,14 +23,14 @@ loop-name-preserved c =
     let left = c.push.inside.0 in
     let rule : IsRule rules number left found.1 = subst (λ n. IsRule rules number n found.1) (sym c.push.view_is) (left_is rules number found.0 c.left.result found.1 found.2 c.left.ensures.left) in
     record {
-      steps =
-          subst (λ l. AreStepsOf rules l c.push-in-loop-name.new.self.items) (sym (take_more uses i (0, 0) inside))
-          (subst (λ l. AreStepsOf rules (take i uses ++ (name, number) ∷ []) l) (sym c.in_ok-push.ensures.items)
-          (steps_more rules (take i uses) c.loop-name.pairs.items name number left found.1 rule found.3 c.loop-name.invariant.steps));
+      mentions =
+          subst (λ l. AreMentionsOf rules l c.push-in-loop-name.new.self.items) (sym (take_more uses i (0, 0) inside))
+          (subst (λ l. AreMentionsOf rules (take i uses ++ (name, number) ∷ []) l) (sym c.in_ok-push.ensures.items)
+          (mentions_more rules (take i uses) c.loop-name.pairs.items name number left found.1 rule found.3 c.loop-name.invariant.mentions));
       count = omega (arith, c.loop-name.invariant.count, c.in_ok-push.ensures.len);
     }
 
-pub returns-clause-steps : goal.returns-clause-steps
-returns-clause-steps c =
-    steps_done c.args.grammar.now.rules c.args.uses.now c.loop-name.pairs.items c.requires
-    (subst (λ l. AreStepsOf c.args.grammar.now.rules l c.loop-name.pairs.items) (take_all c.loop-name.name-index c.args.uses.now (omega arith)) c.loop-name.invariant.steps)
+pub returns-clause-mentions : goal.returns-clause-mentions
+returns-clause-mentions c =
+    mentions_done c.args.grammar.now.rules c.args.uses.now c.loop-name.pairs.items c.requires
+    (subst (λ l. AreMentionsOf c.args.grammar.now.rules l c.loop-name.pairs.items) (take_all c.loop-name.name-index c.args.uses.now (omega arith)) c.loop-name.invariant.mentions)
