@@ -2,7 +2,7 @@
 ghost use Rattle.std.specs.Prelude.{◌<◌, IfOk};
 ghost use Rattle.token_patterns.specs.Build.{CanBuild};
 
-use crate::memory::LETS;
+use crate::reading::LETS;
 use grammar_data::{Place, Token, TokenId};
 use line_lexer::{Lines, lex_lines};
 use lr_base::TEXT_BYTES;

@@ -1,6 +1,6 @@
 use Rattle.item_sets.proofs.TableLemmas.{in_range}
 use Rattle.conflict_report.proofs.BelongingLemmas.{first_conflict}
-use Rattle.worked_rows.proofs.tables.print_conflict.Goals as goal
+use Rattle.grammar_rows.proofs.tables.print_conflict.Goals as goal
 
 pub conflict_text-requires : goal.conflict_text-requires
 conflict_text-requires c = first_conflict c.args.sheet.now.grammar (in_range c.args.sheet.now.grammar (rw c.grammar.ensures at c.rules-rules.ensures.grammar)) c.args.conflict.now c.requires

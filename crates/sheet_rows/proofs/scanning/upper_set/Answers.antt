@@ -1,6 +1,6 @@
 use Rattle.std.proofs.Common.{ap, refl, arith, ◌≡◌, ◌≢◌, List, ℕ, [], ◌∷◌}
 use Rattle.pattern_data.proofs.ByteLemmas.{IsBitSet-no_word}
-use Rattle.worked_rows.proofs.scanning.upper_set.Goals as goal
+use Rattle.sheet_rows.proofs.scanning.upper_set.Goals as goal
 
 pub from_words-requires : goal.from_words-requires
 from_words-requires c = (λ none. not_none c.args.word (omega arith) none, IsBitSet-no_word 0 10 refl)

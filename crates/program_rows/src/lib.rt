@@ -1,0 +1,15 @@
+//! Worked rows of the program: what its call answers over files and outputs in memory.
+#![tactic(auto)]
+
+#[cfg(test)]
+mod checks;
+#[cfg(test)]
+mod limits;
+#[cfg(test)]
+mod memory;
+#[cfg(test)]
+mod pattern_sheets;
+#[cfg(test)]
+mod program;
+#[cfg(test)]
+mod table_calls;
