@@ -19,7 +19,7 @@ use Rattle.collection_laws.proofs.FaultLemmas.{some_fault}
 use Rattle.collection_laws.proofs.BuiltLemmas.{some_grammar}
 use Rattle.conflict_report.specs.TableTexts.{tables_text}
 use Rattle.conflict_report.proofs.SameTexts.{one_text}
-use Rattle.outline_numbers.proofs.SheetGrammar.{sheet_grammar}
+use Rattle.numbering_theory.proofs.SheetGrammar.{sheet_grammar}
 use Rattle.lrpar_cli.specs.FaultTexts.{fault_text, grammar_text}
 use Rattle.lrpar_cli.proofs.FaultLemmas.{fault_once, accepted_once, not_refused, some_accepted_or_fault}
 use Rattle.sheet_theory.specs.ScanOrder.{Ranked, scan_order, scanning_of}

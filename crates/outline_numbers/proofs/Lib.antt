@@ -1,10 +1,3 @@
-pub mod PlaceLemmas
 pub mod VocabularyLemmas
 pub mod WordLemmas
-pub mod DistinctLemmas
-pub mod LimitLemmas
-pub mod MemberLemmas
-pub mod OutlineLemmas
-pub mod GrammarLemmas
 pub mod SheetLemmas
-pub mod SheetGrammar

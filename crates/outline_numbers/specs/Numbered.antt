@@ -1,17 +1,8 @@
 -- An outline with its numbers.
-use Rattle.std.specs.Prelude.{◌≡◌, ◌≢◌, ℕ, ◌+◌, ◌≤◌, List, [], length, map, sum_by, All, Contains, Some, None}
-use Rattle.outline_data.specs.declared.fault.SheetFault.{SheetFault}
-use Rattle.outline_data.specs.declared.fault.SheetFault.TheVariants.{BadByte, Syntax, BadPattern, PatternMatchesEmpty, Redeclared, UnknownSymbol, NoRules, PlaceOutOfRange, PlaceTwice, NotAToken, Limit, NoMemory}
+use Rattle.std.specs.Prelude.{◌≡◌, ◌+◌, length}
 use Rattle.outline_data.specs.Parts.{OutlineParts}
-use Rattle.pattern_data.specs.Language.{Matches}
-use Rattle.sheet_data.specs.Sheet.{Sheet}
-use Rattle.sheet_data.specs.declared.parts.Decl.{Decl}
-use Rattle.sheet_data.specs.declared.parts.Decl.TheVariants.{Literal, Matched, Skip}
-use Rattle.outline_data.specs.AlternativeParts.{AlternativeParts}
-use Rattle.outline_data.specs.GroupParts.{GroupParts}
-use Rattle.outline_theory.specs.Words.{token_words, starts, alternatives_of}
-use Rattle.outline_theory.specs.Limits.{Measure, measures, first_passed, skips_in, positions_in}
-use Rattle.outline_theory.specs.Numbering.{unnamed_literals, grammar_names, rules_of, start_by, template_of, declares_of}
+use Rattle.outline_theory.specs.Words.{token_words, starts}
+use Rattle.outline_theory.specs.Numbering.{unnamed_literals, grammar_names, rules_of, start_by}
 use Rattle.outline_numbers.specs.declared.numbering.Numbered.{Numbered}
 
 -- its literals without a name, its names and its grammar
@@ -24,67 +15,3 @@ pub record IsNumbered (o : OutlineParts) (numbered : Numbered) : Type 0 where
     rules = rules_of o;
     start = start_by (grammar_names o) (starts o);
   }
-
--- the sheet of an outline of which these declarations are kept
-abbrev pub sheet_with : OutlineParts → List Decl → Sheet
-sheet_with o decls = record {
-  decls = decls;
-  literals = unnamed_literals o;
-  names = grammar_names o;
-  grammar = record {
-    tokens = length (token_words o) + length (unnamed_literals o);
-    names = length (grammar_names o);
-    rules = rules_of o;
-    start = start_by (grammar_names o) (starts o);
-  };
-  templates = map template_of (alternatives_of o);
-  declares = map declares_of (alternatives_of o);
-}
-
--- no limit is passed by the sheet
-abbrev pub KeepsLimits : Sheet → Type 0
-KeepsLimits sheet = first_passed (measures sheet) ≡ None
-
--- a limit is passed by it, and this is the fault of the first
-pub record IsPassedBy (sheet : Sheet) (fault : SheetFault) : Type 0 where
-  pub measure : Measure
-  pub passed : first_passed (measures sheet) ≡ Some measure
-  pub is : fault ≡ Limit measure.kind measure.count
-
--- want of memory, or the first limit that the sheet passes
-abbrev pub IsLimitFault : Sheet → SheetFault → Type 0
-IsLimitFault sheet (BadByte line) = ⊥
-IsLimitFault sheet (Syntax line) = ⊥
-IsLimitFault sheet (BadPattern line) = ⊥
-IsLimitFault sheet (PatternMatchesEmpty line) = ⊥
-IsLimitFault sheet (Redeclared line) = ⊥
-IsLimitFault sheet (UnknownSymbol line) = ⊥
-IsLimitFault sheet NoRules = ⊥
-IsLimitFault sheet (PlaceOutOfRange line) = ⊥
-IsLimitFault sheet (PlaceTwice line) = ⊥
-IsLimitFault sheet (NotAToken line) = ⊥
-IsLimitFault sheet (Limit kind count) = IsPassedBy sheet (Limit kind count)
-IsLimitFault sheet NoMemory = Unit {0}
-
--- there are bytes, and none is the line feed
-abbrev pub IsLiteralText : List ℕ → Type 0
-IsLiteralText bytes = (bytes ≢ []) × (¬ (Contains bytes 10))
-
--- a declaration of a literal, or of a pattern that has no empty string
-abbrev pub IsOrdinaryDecl : Decl → Type 0
-IsOrdinaryDecl (Literal name bytes) = IsLiteralText bytes
-IsOrdinaryDecl (Matched name pattern) = ¬ (Matches pattern [])
-IsOrdinaryDecl (Skip pattern) = ¬ (Matches pattern [])
-
--- each right side has at most 20 symbols
-abbrev pub AreShort : GroupParts → Type 0
-AreShort g = All (λ (a : AlternativeParts). length a.right ≤ 20) g.alternatives
-
--- what the limits and the want of faults leave of literals, patterns and right sides
-pub record IsOrdinary (o : OutlineParts) (decls : List Decl) : Type 0 where
-  pub tokens : length (token_words o) + length (unnamed_literals o) ≤ 250
-  pub skips : sum_by skips_in decls ≤ 50
-  pub positions : sum_by positions_in decls + sum_by length (unnamed_literals o) ≤ 5000
-  pub kept : All IsOrdinaryDecl decls
-  pub literals : All IsLiteralText (unnamed_literals o)
-  pub short : All AreShort o.groups

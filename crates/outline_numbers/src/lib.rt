@@ -2,7 +2,6 @@
 #![tactic(auto)]
 
 mod copies;
-mod laws;
 mod limits;
 mod numbering;
 mod numbers;
@@ -11,5 +10,5 @@ mod start;
 mod vocabulary;
 mod words;
 
-pub use laws::sheet_grammar_law;
+pub use numbering_theory::sheet_grammar_law;
 pub use numbering::{Numbered, number_outline};

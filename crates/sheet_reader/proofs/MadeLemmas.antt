@@ -12,7 +12,8 @@ use Rattle.outline_data.specs.Parts.{OutlineParts}
 use Rattle.outline_theory.specs.Words.{token_in, token_words, starts, alternatives_of}
 use Rattle.outline_theory.specs.Numbering.{AreDecls, no_decl, literal_first, matched_first, skip_first, start_first, IsSheetOf, unnamed_literals, grammar_names, WordLists, lists_of, rule_by, rules_by, rules_of, index_of, template_of, declares_of, start_by}
 use Rattle.outline_numbers.specs.declared.numbering.Numbered.{Numbered}
-use Rattle.outline_numbers.specs.Numbered.{IsLiteralText, IsNumbered, IsOrdinary}
+use Rattle.numbering_theory.specs.KeptSheets.{IsLiteralText, IsOrdinary}
+use Rattle.outline_numbers.specs.Numbered.{IsNumbered}
 use Rattle.outline_theory.specs.Limits.{positions_in}
 use Rattle.sheet_reader.specs.WellFormed.{IsWellFormed}
 

@@ -17,8 +17,8 @@ use Rattle.outline_theory.specs.Limits.{positions_in}
 use Rattle.outline_theory.specs.Numbering.{AreDecls, IsSheetOf, unnamed_literals}
 use Rattle.outline_theory.specs.Reading.{HasOutline, IsFaultless, Reads, IsFirstFault}
 use Rattle.outline_reader.specs.Faults.{IsOutlineFault}
-use Rattle.outline_numbers.specs.Numbered.{sheet_with, KeepsLimits, IsLimitFault}
-use Rattle.outline_numbers.proofs.MemberLemmas.{all_from, contains_flat}
+use Rattle.numbering_theory.specs.KeptSheets.{sheet_with, KeepsLimits, IsLimitFault}
+use Rattle.numbering_theory.proofs.MemberLemmas.{all_from, contains_flat}
 use Rattle.sheet_laws.proofs.SizeLemmas.{declared_within}
 use Rattle.sheet_laws.proofs.SheetLemmas.{sheet_once}
 use Rattle.sheet_reader.specs.RuleTexts.{IsPatternText, HasPatternText}

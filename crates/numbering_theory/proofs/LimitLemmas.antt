@@ -12,8 +12,8 @@ use Rattle.outline_data.specs.declared.fault.LimitKind.TheVariants.{Tokens, Skip
 use Rattle.outline_data.specs.declared.fault.SheetFault.{SheetFault}
 use Rattle.outline_theory.specs.Limits.{Measure, first_passed, skips_in, positions_in, long_side}
 use Rattle.outline_theory.specs.Numbering.{WordLists}
-use Rattle.outline_numbers.specs.Symbols.{unnamed_in}
-use Rattle.outline_numbers.specs.Passing.{IsFirstOf, Keeps, one_measure, word_measures, rule_measures, position_measures, all_measures, IsFirstFaultOf}
+use Rattle.numbering_theory.specs.KnownWords.{unnamed_in}
+use Rattle.numbering_theory.specs.Passing.{IsFirstOf, Keeps, one_measure, word_measures, rule_measures, position_measures, all_measures, IsFirstFaultOf}
 
 passed_by : (m : Measure) (ms : List Measure) (b : Bool) → nat_lt m.most m.count ≡ b → first_passed (m ∷ ms) ≡ (if b then Some m else first_passed ms)
 passed_by m ms b e = ap (λ x. if x then Some m else first_passed ms) e

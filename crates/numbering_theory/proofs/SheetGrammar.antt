@@ -7,10 +7,10 @@ use Rattle.outline_data.specs.Parts.{OutlineParts}
 use Rattle.outline_theory.specs.Words.{token_words, starts}
 use Rattle.outline_theory.specs.Limits.{measures, first_passed}
 use Rattle.outline_theory.specs.Numbering.{IsSheetOf, unnamed_literals, grammar_names, rules_of, start_by}
-use Rattle.outline_numbers.specs.Grammars.{SheetGrammarLaw}
-use Rattle.outline_numbers.specs.Numbered.{sheet_with}
-use Rattle.outline_numbers.proofs.GrammarLemmas.{count_tokens, grammar_is}
-use Rattle.outline_numbers.proofs.SheetLemmas.{sheet_measures}
+use Rattle.numbering_theory.specs.Grammars.{SheetGrammarLaw}
+use Rattle.numbering_theory.specs.KeptSheets.{sheet_with}
+use Rattle.numbering_theory.proofs.GrammarLemmas.{count_tokens, grammar_is}
+use Rattle.numbering_theory.proofs.SheetLemmas.{sheet_measures}
 
 abbrev grammar_with : ℕ → ℕ → List Rule → ℕ → Grammar
 grammar_with tokens names rules start = record { tokens = tokens; names = names; rules = rules; start = start }

@@ -9,7 +9,7 @@ use Rattle.outline_data.specs.declared.fault.SheetFault.{SheetFault}
 use Rattle.outline_data.specs.declared.fault.SheetFault.TheVariants.{Limit, NoMemory}
 use Rattle.outline_theory.specs.Limits.{Measure, first_passed, skips_in, positions_in, long_side}
 use Rattle.outline_theory.specs.Numbering.{WordLists}
-use Rattle.outline_numbers.specs.Symbols.{unnamed_in}
+use Rattle.numbering_theory.specs.KnownWords.{unnamed_in}
 
 abbrev pub one_measure : LimitKind → ℕ → ℕ → List Measure
 one_measure kind count most = record { kind = kind; count = count; most = most } ∷ []

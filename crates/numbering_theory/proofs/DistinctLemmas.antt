@@ -11,8 +11,8 @@ use Rattle.outline_data.specs.declared.outline.Word.{Word}
 use Rattle.outline_theory.specs.Words.{texts}
 use Rattle.outline_theory.specs.LineFaults.{StandsAgain}
 use Rattle.outline_theory.specs.Numbering.{is_one_of, index_of, distinct}
-use Rattle.outline_numbers.proofs.VocabularyLemmas.{at_first, one_at}
-use Rattle.outline_numbers.specs.Vocabularies.{with_words}
+use Rattle.numbering_theory.proofs.WordPlaces.{at_first, one_at}
+use Rattle.numbering_theory.specs.Places.{with_words}
 
 abbrev Test : Type 0
 Test = List ℕ → Bool

@@ -24,13 +24,13 @@ use Rattle.outline_theory.specs.Words.{texts, token_in, token_words, StartUse, s
 use Rattle.outline_theory.specs.Limits.{first_passed, long_side}
 use Rattle.outline_theory.specs.Numbering.{is_one_of, index_of, distinct, unnamed_literals, literal_of_token, token_literals, grammar_names, WordLists, lists_of, symbol_by, rule_by, rules_by, rules_of, start_by}
 use Rattle.outline_theory.specs.Reading.{IsFaultless}
-use Rattle.outline_numbers.specs.Symbols.{IsKnownName, IsKnown, AreKnown, IsKnownGroup, unnamed_in}
-use Rattle.outline_numbers.specs.Passing.{all_measures}
-use Rattle.outline_numbers.proofs.VocabularyLemmas.{at_first, one_at}
-use Rattle.outline_numbers.proofs.LimitLemmas.{none_over, short_first}
-use Rattle.outline_numbers.proofs.DistinctLemmas.{HasOnePlace, distinct_place}
-use Rattle.outline_numbers.proofs.MemberLemmas.{contains_flat, one_of_distinct}
-use Rattle.outline_numbers.proofs.OutlineLemmas.{all_known, starts_known}
+use Rattle.numbering_theory.specs.KnownWords.{IsKnownName, IsKnown, AreKnown, IsKnownGroup, unnamed_in}
+use Rattle.numbering_theory.specs.Passing.{all_measures}
+use Rattle.numbering_theory.proofs.WordPlaces.{at_first, one_at}
+use Rattle.numbering_theory.proofs.LimitLemmas.{none_over, short_first}
+use Rattle.numbering_theory.proofs.DistinctLemmas.{HasOnePlace, distinct_place}
+use Rattle.numbering_theory.proofs.MemberLemmas.{contains_flat, one_of_distinct}
+use Rattle.numbering_theory.proofs.OutlineLemmas.{all_known, starts_known}
 
 -- a known word's number is in range
 index_within : (words : List (List ℕ)) (word : List ℕ) → is_one_of words word ≡ true → index_of words word < length words

@@ -9,7 +9,7 @@ use Rattle.std.proofs.lemmas.Slice.Eq.{bytes_eq-Decides}
 use Rattle.std.proofs.lemmas.Map.{update_same, update_other}
 use Rattle.std.proofs.lemmas.Option.{none-some}
 use Rattle.outline_theory.specs.Numbering.{is_one_of, index_of}
-use Rattle.outline_numbers.specs.Vocabularies.{first_place}
+use Rattle.numbering_theory.specs.Places.{first_place}
 
 -- a look-up gives the first place of each word, and nothing else
 abbrev pub GivesPlaces : (List ℕ → Option ℕ) → List (List ℕ) → Type 0

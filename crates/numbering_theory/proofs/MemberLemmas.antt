@@ -8,7 +8,7 @@ use Rattle.std.proofs.lemmas.List.Elements.{All-weaker, All-contains_itself, Con
 use Rattle.std.proofs.lemmas.Option.{slice_get-get_or}
 use Rattle.std.proofs.lemmas.Slice.Eq.{bytes_eq-Decides}
 use Rattle.outline_theory.specs.Numbering.{is_one_of, distinct}
-use Rattle.outline_numbers.proofs.VocabularyLemmas.{one_at}
+use Rattle.numbering_theory.proofs.WordPlaces.{one_at}
 
 -- what holds of each member holds of all
 pub all_from : {X : Type 0} (P : X → Type 0) (xs : List X) → ((x : X) → Contains xs x → P x) → All P xs

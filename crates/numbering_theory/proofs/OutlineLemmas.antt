@@ -19,10 +19,10 @@ use Rattle.outline_theory.specs.Words.{texts, token_words, literal_in, literal_w
 use Rattle.outline_theory.specs.LineFaults.{empty_literal, name_again, unknown_name, unknown_start}
 use Rattle.outline_theory.specs.Numbering.{is_one_of, distinct, unnamed_literals, literal_of_token, token_literals, grammar_names, lists_of}
 use Rattle.outline_theory.specs.Reading.{IsFaultless}
-use Rattle.outline_numbers.specs.Vocabularies.{with_words}
-use Rattle.outline_numbers.specs.Symbols.{IsKnownName, IsKnown, AreKnown, IsKnownGroup}
-use Rattle.outline_numbers.proofs.DistinctLemmas.{noted, noted_alone, noted_once}
-use Rattle.outline_numbers.proofs.MemberLemmas.{all_from, contains_map, contains_flat, one_of, one_of_filter, one_of_distinct}
+use Rattle.numbering_theory.specs.Places.{with_words}
+use Rattle.numbering_theory.specs.KnownWords.{IsKnownName, IsKnown, AreKnown, IsKnownGroup}
+use Rattle.numbering_theory.proofs.DistinctLemmas.{noted, noted_alone, noted_once}
+use Rattle.numbering_theory.proofs.MemberLemmas.{all_from, contains_map, contains_flat, one_of, one_of_filter, one_of_distinct}
 
 -- a word with bytes is one of the declared literals exactly where a token has it
 nothing_else : (word : List ℕ) → word ≢ [] → (b : Bool) → bytes_eq [] word ≡ b → b ≡ false

@@ -1,0 +1,9 @@
+pub mod PlaceLemmas
+pub mod WordPlaces
+pub mod DistinctLemmas
+pub mod LimitLemmas
+pub mod MemberLemmas
+pub mod OutlineLemmas
+pub mod GrammarLemmas
+pub mod SheetLemmas
+pub mod SheetGrammar
