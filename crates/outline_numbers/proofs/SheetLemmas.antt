@@ -25,13 +25,14 @@ use Rattle.outline_theory.specs.Reading.{IsFaultless}
 use Rattle.outline_theory.specs.Words.{texts, literal_in, literal_words, pattern_in, side_literals, all_literals, token_words, starts}
 use Rattle.outline_theory.specs.Limits.{Measure, measures, first_passed, skips_in, positions_in, long_side}
 use Rattle.outline_theory.specs.Numbering.{AreDecls, no_decl, literal_first, matched_first, skip_first, start_first, token_literals, unnamed_literals, grammar_names, is_one_of, index_of, distinct, WordLists, lists_of, symbol_by, rule_by, rules_by, rules_of, start_by}
-use Rattle.outline_numbers.specs.Symbols.{unnamed_in}
-use Rattle.outline_numbers.specs.Passing.{all_measures, IsFirstFaultOf}
+use Rattle.numbering_theory.specs.KnownWords.{unnamed_in}
+use Rattle.numbering_theory.specs.Passing.{all_measures, IsFirstFaultOf}
 use Rattle.outline_numbers.specs.declared.numbering.Numbered.{Numbered}
-use Rattle.outline_numbers.specs.Numbered.{IsNumbered, sheet_with, KeepsLimits, IsLimitFault, IsLiteralText, IsOrdinaryDecl, AreShort, IsOrdinary}
-use Rattle.outline_numbers.proofs.LimitLemmas.{none_over, short_first}
-use Rattle.outline_numbers.proofs.MemberLemmas.{all_from, contains_flat, contains_map}
-use Rattle.outline_numbers.proofs.GrammarLemmas.{count_tokens, unnamed_behind}
+use Rattle.outline_numbers.specs.Numbered.{IsNumbered}
+use Rattle.numbering_theory.specs.KeptSheets.{sheet_with, KeepsLimits, IsLimitFault, IsLiteralText, IsOrdinaryDecl, AreShort, IsOrdinary}
+use Rattle.numbering_theory.proofs.LimitLemmas.{none_over, short_first}
+use Rattle.numbering_theory.proofs.MemberLemmas.{all_from, contains_flat, contains_map}
+use Rattle.numbering_theory.proofs.GrammarLemmas.{count_tokens, unnamed_behind}
 
 pub numbered_is : (o : OutlineParts) (lists : WordLists) (numbered : Numbered) (rules : List Rule) (start : ℕ) → lists ≡ lists_of o → numbered.literals.items ≡ unnamed_in lists → numbered.names.items ≡ lists.names
     → numbered.grammar ≡ record { tokens = length lists.literals; names = length lists.names; rules = rules; start = start } → rules ≡ flat_map (rules_by lists) o.groups → start ≡ start_by lists.names (starts o) → IsNumbered o numbered

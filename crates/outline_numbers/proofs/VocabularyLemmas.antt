@@ -10,8 +10,9 @@ use Rattle.std.proofs.lemmas.Slice.Eq.{bytes_eq-Decides}
 use Rattle.std.proofs.lemmas.Option.{none-some, same_Some, slice_get_within}
 use Rattle.outline_theory.specs.Numbering.{is_one_of, index_of}
 use Rattle.outline_numbers.specs.declared.vocabulary.Vocabulary.{Vocabulary}
-use Rattle.outline_numbers.specs.Vocabularies.{words_of, place_in, first_place, IsVocabulary, with_word, IsFound}
-use Rattle.outline_numbers.proofs.PlaceLemmas.{GivesPlaces, one_of_by, index_by, place_by, none_of, one_of_place, places_kept, places_push}
+use Rattle.outline_numbers.specs.Vocabularies.{words_of, place_in, IsVocabulary}
+use Rattle.numbering_theory.specs.Places.{first_place, with_word, IsFound}
+use Rattle.numbering_theory.proofs.PlaceLemmas.{GivesPlaces, one_of_by, index_by, place_by, none_of, one_of_place, places_kept, places_push}
 
 -- an option that is none, or some
 pub absent : (o : Option (Bor ℕ)) (b : Bool) → is_some o ≡ not b → b ≡ true → option_copied o ≡ None

@@ -6,7 +6,7 @@ use Rattle.std.proofs.lemmas.Grind.{flat_map-append}
 use Rattle.std.proofs.lemmas.List.{append-nil, map-append, take_more, take_all}
 use Rattle.outline_data.specs.declared.outline.Word.{Word}
 use Rattle.outline_theory.specs.Words.{texts}
-use Rattle.outline_numbers.specs.Vocabularies.{with_word, with_words}
+use Rattle.numbering_theory.specs.Places.{with_word, with_words}
 
 pub with_words-append : (base words more : List (List ℕ)) → with_words base (words ++ more) ≡ with_words (with_words base words) more
 with_words-append base [] more = refl

@@ -1,9 +1,10 @@
 //! The limits of an outline with numbers.
 ghost use Rattle.std.specs.Prelude.{◌≡◌, ◌+◌, ◌<◌, ◌≤◌, ◌^◌, length, sum_by};
-ghost use Rattle.outline_numbers.specs.Symbols.{lists_in, unnamed_in};
+ghost use Rattle.outline_numbers.specs.Symbols.{lists_in};
+ghost use Rattle.numbering_theory.specs.KnownWords.{unnamed_in};
 ghost use Rattle.lr_base.specs.IsGrammar.{symbols_of};
 ghost use Rattle.outline_theory.specs.Limits.{long_side, skips_in, positions_in};
-ghost use Rattle.outline_numbers.specs.Passing.{Keeps, one_measure, word_measures, rule_measures, position_measures};
+ghost use Rattle.numbering_theory.specs.Passing.{Keeps, one_measure, word_measures, rule_measures, position_measures};
 
 use crate::numbers::Numbers;
 use lr_base::Rule;

@@ -6,9 +6,11 @@ ghost use Rattle.outline_theory.specs.Reading.{IsFaultless};
 ghost use Rattle.std.specs.List.{flat_map};
 ghost use Rattle.outline_theory.specs.Numbering.{AreDecls, lists_of, unnamed_literals, rules_by};
 ghost use Rattle.outline_theory.specs.Limits.{first_passed, positions_in};
-ghost use Rattle.outline_numbers.specs.Symbols.{AreNumbers, AreVocabularies, IsKnownGroup, lists_in, unnamed_in};
-ghost use Rattle.outline_numbers.specs.Passing.{IsFirstFaultOf, all_measures};
-ghost use Rattle.outline_numbers.specs.Numbered.{IsNumbered, sheet_with, KeepsLimits, IsLimitFault, IsOrdinary};
+ghost use Rattle.outline_numbers.specs.Symbols.{AreNumbers, AreVocabularies, lists_in};
+ghost use Rattle.numbering_theory.specs.KnownWords.{IsKnownGroup, unnamed_in};
+ghost use Rattle.numbering_theory.specs.Passing.{IsFirstFaultOf, all_measures};
+ghost use Rattle.outline_numbers.specs.Numbered.{IsNumbered};
+ghost use Rattle.numbering_theory.specs.KeptSheets.{sheet_with, KeepsLimits, IsLimitFault, IsOrdinary};
 
 use crate::copies::copy_words;
 use crate::limits::{check_positions, check_rules, check_words};

@@ -2,7 +2,8 @@
 ghost use Rattle.std.specs.Prelude.{◌≡◌, ◌≤◌, true, length, map, drop, if◌then◌else◌};
 ghost use Rattle.grammar_data.specs.declared.rule.Sym.TheVariants.{Token as token_symbol, Name as name_symbol};
 ghost use Rattle.outline_theory.specs.Numbering.{is_one_of, index_of, symbol_by};
-ghost use Rattle.outline_numbers.specs.Symbols.{AreNumbers, IsKnown, IsKnownName, lists_in, unnamed_in};
+ghost use Rattle.outline_numbers.specs.Symbols.{AreNumbers, lists_in};
+ghost use Rattle.numbering_theory.specs.KnownWords.{IsKnown, IsKnownName, unnamed_in};
 
 use crate::vocabulary::Vocabulary;
 use lr_base::{NameId, Sym, TokenId};

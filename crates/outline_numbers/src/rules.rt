@@ -2,7 +2,8 @@
 ghost use Rattle.std.specs.Prelude.{◌≡◌, ◌++◌, map, All, IfOk, OnOk};
 ghost use Rattle.std.specs.List.{flat_map};
 ghost use Rattle.outline_theory.specs.Numbering.{symbol_by, rules_by};
-ghost use Rattle.outline_numbers.specs.Symbols.{AreNumbers, AreKnown, IsKnownGroup, lists_in};
+ghost use Rattle.outline_numbers.specs.Symbols.{AreNumbers, lists_in};
+ghost use Rattle.numbering_theory.specs.KnownWords.{AreKnown, IsKnownGroup};
 
 use crate::numbers::Numbers;
 use lr_base::{NoMemory, Rule, Sym};

@@ -2,7 +2,8 @@
 ghost use Rattle.std.specs.Prelude.{◌≡◌, ℕ, List, [], ◌∷◌, true, All, MatchOption};
 ghost use Rattle.outline_theory.specs.Words.{StartUse, starts};
 ghost use Rattle.outline_theory.specs.Numbering.{is_one_of, start_by};
-ghost use Rattle.outline_numbers.specs.Symbols.{AreNumbers, IsFirstStart, lists_in};
+ghost use Rattle.outline_numbers.specs.Symbols.{AreNumbers, lists_in};
+ghost use Rattle.numbering_theory.specs.KnownWords.{IsFirstStart};
 
 use crate::numbers::Numbers;
 use lr_base::NameId;

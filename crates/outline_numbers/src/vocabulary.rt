@@ -1,6 +1,7 @@
 //! Words by their places.
 ghost use Rattle.std.specs.Prelude.{◌≡◌, ◌++◌, [], ◌∷◌, OnOk, length};
-ghost use Rattle.outline_numbers.specs.Vocabularies.{IsVocabulary, words_of, with_word, IsFound};
+ghost use Rattle.outline_numbers.specs.Vocabularies.{IsVocabulary, words_of};
+ghost use Rattle.numbering_theory.specs.Places.{with_word, IsFound};
 
 use lr_base::NoMemory;
 use std::alloc::Global;

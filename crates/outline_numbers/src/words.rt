@@ -3,7 +3,8 @@ ghost use Rattle.std.specs.Prelude.{◌≡◌, [], ◌∷◌, ◌++◌, OnOk, If
 ghost use Rattle.std.specs.List.{flat_map};
 ghost use Rattle.outline_theory.specs.Words.{texts, token_in, token_words, left_words, quoted_in, side_literals};
 ghost use Rattle.outline_theory.specs.Numbering.{literal_of_token};
-ghost use Rattle.outline_numbers.specs.Vocabularies.{IsVocabulary, words_of, with_words};
+ghost use Rattle.outline_numbers.specs.Vocabularies.{IsVocabulary, words_of};
+ghost use Rattle.numbering_theory.specs.Places.{with_words};
 
 use crate::vocabulary::Vocabulary;
 use lr_base::NoMemory;

@@ -2,7 +2,7 @@ use Rattle.std.proofs.Common.{◌≤◌, ◌*◌, [], length, refl, subst, arith
 use Rattle.std.specs.Prelude.{nat_lt}
 use Rattle.lr_base.specs.IsGrammar.{symbols_of}
 use Rattle.outline_data.specs.declared.fault.LimitKind.TheVariants.{Rules, RightSide}
-use Rattle.outline_numbers.proofs.LimitLemmas.{at_most, few_symbols}
+use Rattle.numbering_theory.proofs.LimitLemmas.{at_most, few_symbols}
 use Rattle.outline_numbers.proofs.limits.check_rules.Goals as goal
 
 pub count_symbols-requires : goal.count_symbols-requires

@@ -1,6 +1,6 @@
 use Rattle.std.proofs.Common.{refl}
 use Rattle.std.specs.Prelude.{nat_lt}
-use Rattle.outline_numbers.proofs.LimitLemmas.{passed_one}
+use Rattle.numbering_theory.proofs.LimitLemmas.{passed_one}
 use Rattle.outline_numbers.proofs.limits.within.Goals as goal
 
 pub returns-then-most-count : goal.returns-then-most-count

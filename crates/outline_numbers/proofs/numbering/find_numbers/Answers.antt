@@ -1,5 +1,5 @@
 use Rattle.outline_numbers.specs.Vocabularies.{words_of}
-use Rattle.outline_numbers.proofs.OutlineLemmas.{lists_are}
+use Rattle.numbering_theory.proofs.OutlineLemmas.{lists_are}
 use Rattle.outline_numbers.proofs.numbering.find_numbers.Goals as goal
 
 pub returns-clause-lists : goal.returns-clause-lists

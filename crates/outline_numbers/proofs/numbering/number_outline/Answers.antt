@@ -3,12 +3,14 @@ use Rattle.std.specs.Prelude.{All, None, true, sum_by}
 use Rattle.outline_theory.specs.Limits.{first_passed, positions_in}
 use Rattle.outline_theory.specs.Numbering.{WordLists, is_one_of, rules_by}
 use Rattle.outline_theory.specs.Words.{StartUse, starts}
-use Rattle.outline_numbers.specs.Symbols.{lists_in, unnamed_in, IsKnownGroup}
-use Rattle.outline_numbers.specs.Passing.{all_measures, IsFirstFaultOf}
+use Rattle.outline_numbers.specs.Symbols.{lists_in}
+use Rattle.numbering_theory.specs.KnownWords.{unnamed_in, IsKnownGroup}
+use Rattle.numbering_theory.specs.Passing.{all_measures, IsFirstFaultOf}
 use Rattle.std.specs.List.{flat_map}
-use Rattle.outline_numbers.proofs.OutlineLemmas.{all_known, starts_known}
-use Rattle.outline_numbers.proofs.GrammarLemmas.{few_names, unnamed_behind, grammar_by}
-use Rattle.outline_numbers.proofs.SheetLemmas.{keeps, passes, ordinary, numbered_is}
+use Rattle.numbering_theory.proofs.OutlineLemmas.{all_known, starts_known}
+use Rattle.numbering_theory.proofs.GrammarLemmas.{few_names, unnamed_behind, grammar_by}
+use Rattle.numbering_theory.proofs.SheetLemmas.{keeps, passes, ordinary}
+use Rattle.outline_numbers.proofs.SheetLemmas.{numbered_is}
 use Rattle.outline_numbers.proofs.numbering.number_outline.Goals as goal
 
 pub rules_within-requires-clause-tokens : goal.rules_within-requires-clause-tokens

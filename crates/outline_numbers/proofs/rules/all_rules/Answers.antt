@@ -1,6 +1,7 @@
 use Rattle.std.proofs.Common.{ap, ◌∙◌}
 use Rattle.outline_data.specs.Parts.{OutlineParts}
-use Rattle.outline_numbers.specs.Symbols.{IsKnownGroup, lists_in}
+use Rattle.numbering_theory.specs.KnownWords.{IsKnownGroup}
+use Rattle.outline_numbers.specs.Symbols.{lists_in}
 use Rattle.outline_numbers.proofs.WordLemmas.{all_at}
 use Rattle.outline_numbers.proofs.rules.all_rules.Goals as goal
 

@@ -3,7 +3,7 @@ use Rattle.std.proofs.lemmas.List.Concat.{flat_map_single}
 use Rattle.outline_data.specs.GroupParts.{GroupParts}
 use Rattle.outline_data.specs.Parts.{OutlineParts}
 use Rattle.outline_theory.specs.Words.{texts}
-use Rattle.outline_numbers.specs.Vocabularies.{with_words}
+use Rattle.numbering_theory.specs.Places.{with_words}
 use Rattle.outline_numbers.proofs.WordLemmas.{noted_next, noted_all}
 use Rattle.outline_numbers.proofs.words.grammar_names.Goals as goal
 

@@ -5,7 +5,7 @@ use Rattle.outline_data.specs.GroupParts.{GroupParts}
 use Rattle.outline_data.specs.Parts.{OutlineParts}
 use Rattle.outline_theory.specs.Words.{texts, quoted_in}
 use Rattle.outline_theory.specs.Numbering.{literal_of_token}
-use Rattle.outline_numbers.specs.Vocabularies.{with_words}
+use Rattle.numbering_theory.specs.Places.{with_words}
 use Rattle.outline_numbers.proofs.WordLemmas.{noted_next, noted_all, flat_map-nested}
 use Rattle.outline_numbers.proofs.words.literals.Goals as goal
 

@@ -4,7 +4,8 @@ use Rattle.outline_theory.specs.Words.{texts, quoted_in}
 use Rattle.outline_theory.specs.Numbering.{literal_of_token}
 use Rattle.outline_data.specs.AlternativeParts.{AlternativeParts}
 use Rattle.outline_data.specs.GroupParts.{GroupParts}
-use Rattle.outline_numbers.specs.Vocabularies.{IsVocabulary, words_of, with_words}
+use Rattle.outline_numbers.specs.Vocabularies.{IsVocabulary, words_of}
+use Rattle.numbering_theory.specs.Places.{with_words}
 use Rattle.outline_numbers.proofs.words.literals.Given as goal
 
 abbrev pub invariant-loop-group : goal.invariant-loop-group

@@ -1,7 +1,8 @@
 use Rattle.std.proofs.Common.{ap, ◌∙◌}
 use Rattle.outline_data.specs.AlternativeParts.{AlternativeParts}
 use Rattle.outline_theory.specs.Words.{texts, quoted_in}
-use Rattle.outline_numbers.specs.Vocabularies.{words_of, with_words}
+use Rattle.outline_numbers.specs.Vocabularies.{words_of}
+use Rattle.numbering_theory.specs.Places.{with_words}
 use Rattle.outline_numbers.proofs.WordLemmas.{noted_next}
 use Rattle.outline_numbers.proofs.words.note_side.Goals as goal
 

@@ -1,7 +1,8 @@
 use Rattle.std.proofs.Common.{◌≡◌, take}
 use Rattle.std.specs.List.{flat_map}
 use Rattle.outline_theory.specs.Words.{texts, quoted_in}
-use Rattle.outline_numbers.specs.Vocabularies.{IsVocabulary, words_of, with_words}
+use Rattle.outline_numbers.specs.Vocabularies.{IsVocabulary, words_of}
+use Rattle.numbering_theory.specs.Places.{with_words}
 use Rattle.outline_numbers.proofs.words.note_side.Given as goal
 
 abbrev pub invariant-loop-symbol : goal.invariant-loop-symbol

@@ -3,7 +3,8 @@ use Rattle.std.specs.List.{flat_map}
 use Rattle.outline_data.specs.AlternativeParts.{AlternativeParts}
 use Rattle.outline_data.specs.GroupParts.{GroupParts}
 use Rattle.outline_theory.specs.Words.{texts, quoted_in}
-use Rattle.outline_numbers.specs.Vocabularies.{words_of, with_words}
+use Rattle.outline_numbers.specs.Vocabularies.{words_of}
+use Rattle.numbering_theory.specs.Places.{with_words}
 use Rattle.outline_numbers.proofs.WordLemmas.{noted_next}
 use Rattle.outline_numbers.proofs.words.note_sides.Goals as goal
 

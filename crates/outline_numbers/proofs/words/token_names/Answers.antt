@@ -1,7 +1,7 @@
 use Rattle.std.proofs.Common.{[], ap, ◌∙◌}
 use Rattle.outline_data.specs.Parts.{OutlineParts}
 use Rattle.outline_theory.specs.Words.{texts, token_in}
-use Rattle.outline_numbers.specs.Vocabularies.{with_words}
+use Rattle.numbering_theory.specs.Places.{with_words}
 use Rattle.outline_numbers.proofs.WordLemmas.{noted_next}
 use Rattle.outline_numbers.proofs.words.token_names.Goals as goal
 

@@ -1,6 +1,6 @@
 use Rattle.std.proofs.Common.{◌∙◌}
 use Rattle.outline_numbers.specs.Vocabularies.{place_in, words_of}
-use Rattle.outline_numbers.proofs.VocabularyLemmas.{finds}
+use Rattle.numbering_theory.proofs.WordPlaces.{finds}
 use Rattle.outline_numbers.proofs.vocabulary.Vocabulary.place_of.Goals as goal
 
 pub returns : goal.returns
