@@ -10,5 +10,5 @@ mod start;
 mod vocabulary;
 mod words;
 
-pub use numbering_theory::sheet_grammar_law;
 pub use numbering::{Numbered, number_outline};
+pub use numbering_theory::sheet_grammar_law;

@@ -70,7 +70,7 @@ fn grammar_of(numbers: &Numbers<'_>, rules: Vec<Rule>, start: NameId) -> Grammar
 }
 
 /// The rules, where the limits are kept.
-#[tactic(auto, using(crate::proofs::LimitLemmas::words_passed, crate::proofs::LimitLemmas::rules_passed, crate::proofs::LimitLemmas::positions_passed))]
+#[tactic(auto, using(numbering_theory::proofs::LimitLemmas::words_passed, numbering_theory::proofs::LimitLemmas::rules_passed, numbering_theory::proofs::LimitLemmas::positions_passed))]
 fn rules_within(
     alloc: Global,
     numbers: &Numbers<'_>,
