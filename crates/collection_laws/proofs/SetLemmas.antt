@@ -1,8 +1,8 @@
 -- It isn't refuted that a fact of the tokens has the set of the tokens with it.
 use Rattle.std.proofs.Common.{◌≡◌, ℕ, zero, suc, ◌/◌, ◌==◌, ◌||◌, ◌<◌, ◌≤◌, ◌↔◌, ◌⊎◌, inl, inr, ⊎_elim, true, IsTrue, List, set, sym, subst, ◌∙◌, arith}
 use Rattle.std.proofs.lemmas.Bool.{or_left, or_right, or_cases, eqb-true, eq-eqb, false≢true, cases_lt}
-use Rattle.lr_base.specs.TokenSet.{IsTokenSet, has_token}
-use Rattle.lr_base.proofs.TokenSetLemmas.{IsTokenSet-set, with_token, with_token-lt, insert_members, no_words, no_token, IsTokenSet-no_words}
+use Rattle.grammar_data.specs.TokenSet.{IsTokenSet, has_token}
+use Rattle.grammar_data.proofs.TokenSetLemmas.{IsTokenSet-set, with_token, with_token-lt, insert_members, no_words, no_token, IsTokenSet-no_words}
 use Rattle.state_laws.proofs.RefutedLemmas.{NotRefuted, decided}
 
 -- the set of the tokens below the bound that have the fact

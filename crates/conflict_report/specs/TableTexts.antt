@@ -3,7 +3,7 @@ use Rattle.std.specs.Prelude.{ℕ, ◌+◌, List, [], ◌++◌, Option, None, So
 use Rattle.std.specs.List.{flat_map, range_with_len}
 use Rattle.std.specs.Fmt.{decimal}
 use Rattle.grammar_data.specs.declared.rule.Sym.TheVariants.{Name}
-use Rattle.lr_base.specs.TokenSet.{has_token}
+use Rattle.grammar_data.specs.TokenSet.{has_token}
 use Rattle.sheet_data.specs.Sheet.{Sheet}
 use Rattle.outline_theory.specs.Layout.{symbol_text}
 use Rattle.item_sets.specs.declared.entry.Entry.{Entry}

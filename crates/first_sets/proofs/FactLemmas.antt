@@ -8,7 +8,7 @@ use Rattle.grammar_data.specs.declared.rule.Sym.{Sym}
 use Rattle.grammar_data.specs.declared.rule.Sym.TheVariants.{Token, Name}
 use Rattle.grammar_data.specs.Grammar.{Grammar}
 use Rattle.lr_base.specs.IsGrammar.{IsGrammar, IsSymbolOf}
-use Rattle.lr_base.specs.TokenSet.{IsTokenSet, has_token}
+use Rattle.grammar_data.specs.TokenSet.{IsTokenSet, has_token}
 use Rattle.grammar_theory.specs.Rules.{IsInRange, NamesBelow, TokensBelow, OnlyNames}
 use Rattle.grammar_theory.specs.UsefulNames.{AllProductive}
 use Rattle.grammar_theory.specs.EmptyNames.{IsNullable, IsSizedBelow}

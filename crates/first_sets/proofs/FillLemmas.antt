@@ -11,7 +11,7 @@ use Rattle.std.specs.Int.{bit_at}
 use Rattle.grammar_data.specs.declared.rule.Sym.{Sym}
 use Rattle.grammar_data.specs.declared.rule.Sym.TheVariants.{Token, Name}
 use Rattle.grammar_data.specs.Grammar.{Grammar}
-use Rattle.lr_base.specs.TokenSet.{IsTokenSet, has_token}
+use Rattle.grammar_data.specs.TokenSet.{IsTokenSet, has_token}
 use Rattle.grammar_theory.specs.FirstTokens.{FirstHas}
 use Rattle.first_sets.specs.declared.opening.Opening.{Opening}
 use Rattle.first_sets.specs.Relations.{IsExtended}

@@ -1,7 +1,7 @@
 -- What an analysis of a grammar knows of each name: its first tokens, and its empty size where it is nullable.
 use Rattle.std.specs.Prelude.{◌≡◌, ℕ, ◌<◌, ◌≤◌, ◌↔◌, Bool, ◌==◌, if◌then◌else◌, nat_lt, IsTrue, List, [], length, slice_index, slice_index_or, Option, Some, None}
 use Rattle.grammar_data.specs.Grammar.{Grammar}
-use Rattle.lr_base.specs.TokenSet.{IsTokenSet, has_token}
+use Rattle.grammar_data.specs.TokenSet.{IsTokenSet, has_token}
 use Rattle.grammar_theory.specs.EmptyNames.{IsNullable, HasEmptySize}
 use Rattle.grammar_theory.specs.FirstTokens.{FirstHas}
 

@@ -4,7 +4,7 @@ use Rattle.grammar_data.specs.declared.rule.Sym.{Sym}
 use Rattle.grammar_data.specs.declared.rule.Sym.TheVariants.{Token, Name}
 use Rattle.grammar_data.specs.Grammar.{Rule, Grammar}
 use Rattle.lr_base.specs.IsGrammar.{IsSymbolOf}
-use Rattle.lr_base.specs.TokenSet.{IsTokenSet, has_token}
+use Rattle.grammar_data.specs.TokenSet.{IsTokenSet, has_token}
 use Rattle.grammar_theory.specs.FirstTokens.{FirstHas}
 use Rattle.grammar_theory.specs.Rules.{IsRule}
 use Rattle.first_sets.specs.declared.known_names.Lists.TheVariants.{Empty}

@@ -1,6 +1,6 @@
 ghost use Rattle.std.specs.Prelude.{◌≡◌, ◌↔◌, ℕ, ◌≤◌, length, All, IfErr, IfOk, IsTrue, MatchOption, MatchResult};
 ghost use Rattle.lr_base.specs.IsGrammar.{IsGrammar};
-ghost use Rattle.lr_base.specs.TokenSet.{IsTokenSet, has_token};
+ghost use Rattle.grammar_data.specs.TokenSet.{IsTokenSet, has_token};
 ghost use Rattle.grammar_theory.specs.UsefulNames.{AllProductive};
 ghost use Rattle.grammar_theory.specs.UselessNames.{AllReachable, IsUseful};
 ghost use Rattle.grammar_theory.specs.EmptyNames.{IsNullable};

@@ -1,6 +1,6 @@
 ghost use Rattle.std.specs.Prelude.{◌≡◌, ◌↔◌, ℕ, ◌<◌, ◌≤◌, length, All, Contains, IfOk, IsTrue, MatchBool};
 ghost use Rattle.lr_base.specs.IsGrammar.{IsGrammar, IsSymbolOf};
-ghost use Rattle.lr_base.specs.TokenSet.{IsTokenSet, has_token};
+ghost use Rattle.grammar_data.specs.TokenSet.{IsTokenSet, has_token};
 ghost use Rattle.grammar_theory.specs.FirstTokens.{FirstHas};
 ghost use Rattle.first_sets.specs.Openings.{AreReaders, Begins, IsFilled, IsFilledBy, IsOpeningOf, PassesOn, set_at};
 

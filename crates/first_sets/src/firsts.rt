@@ -1,5 +1,5 @@
 ghost use Rattle.std.specs.Prelude.{◌≡◌, ◌<◌, length, All};
-ghost use Rattle.lr_base.specs.TokenSet.{IsTokenSet, has_token};
+ghost use Rattle.grammar_data.specs.TokenSet.{IsTokenSet, has_token};
 ghost use Rattle.first_sets.specs.NameFacts.{empty_size_in, first_set_in, names_in, nullable_in};
 
 use grammar_data::{NameId, TokenId};
@@ -15,7 +15,7 @@ pub struct Firsts {
 
 impl Model for Firsts {
     ghost use Rattle.std.specs.Prelude.{◌≡◌, length, All};
-    ghost use Rattle.lr_base.specs.TokenSet.{IsTokenSet};
+    ghost use Rattle.grammar_data.specs.TokenSet.{IsTokenSet};
     ghost use Rattle.first_sets.specs.NameFacts.{NameFacts as Facts};
 
     ghost Value = { Facts };

@@ -1,4 +1,5 @@
-//! The plain types of a grammar and of a text's tokens, and nothing else: every other crate speaks by them.
+//! The plain types of a grammar and of a text's tokens, with what a set of tokens is, and nothing else: every other crate
+//! speaks by them.
 #![tactic(auto)]
 
 mod ids;

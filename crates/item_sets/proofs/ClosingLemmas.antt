@@ -10,7 +10,7 @@ use Rattle.std.specs.Int.{bit_at}
 use Rattle.grammar_data.specs.declared.rule.Sym.{Sym}
 use Rattle.grammar_data.specs.declared.rule.Sym.TheVariants.{Token, Name}
 use Rattle.grammar_data.specs.Grammar.{Grammar}
-use Rattle.lr_base.specs.TokenSet.{IsTokenSet, has_token}
+use Rattle.grammar_data.specs.TokenSet.{IsTokenSet, has_token}
 use Rattle.item_theory.specs.Items.{all_rules}
 use Rattle.item_sets.specs.declared.spot.Spot.{Spot}
 use Rattle.item_sets.specs.Spots.{IsSpotAt, AreSpots, IsOpening, IsTable}

@@ -9,7 +9,7 @@ use Rattle.std.proofs.lemmas.Option.{slice_get_within, slice_get-get_or}
 use Rattle.grammar_data.specs.declared.rule.Sym.{Sym}
 use Rattle.grammar_data.specs.declared.rule.Sym.TheVariants.{Name}
 use Rattle.grammar_data.specs.Grammar.{Grammar}
-use Rattle.lr_base.specs.TokenSet.{has_token}
+use Rattle.grammar_data.specs.TokenSet.{has_token}
 use Rattle.grammar_theory.specs.Rules.{IsRule, OnlyNames}
 use Rattle.grammar_theory.specs.EmptyNames.{IsNullable}
 use Rattle.grammar_theory.specs.FirstTokens.{FirstHas, IsFirst, IsFound}

@@ -9,7 +9,7 @@ use Rattle.std.proofs.lemmas.List.Kept.{AllPairs-cons}
 use Rattle.std.proofs.lemmas.Option.{same_Some, none-some, slice_get_within}
 use Rattle.grammar_data.specs.declared.rule.Sym.{Sym}
 use Rattle.grammar_data.specs.Grammar.{Rule, Grammar}
-use Rattle.lr_base.specs.TokenSet.{IsTokenSet, has_token}
+use Rattle.grammar_data.specs.TokenSet.{IsTokenSet, has_token}
 use Rattle.grammar_theory.specs.Rules.{IsRule}
 use Rattle.grammar_theory.proofs.RuleLemmas.{rule_once}
 use Rattle.item_theory.specs.Items.{Item}

@@ -5,8 +5,8 @@ use Rattle.std.proofs.lemmas.List.Elements.{All-head, All-tail, All-filter}
 use Rattle.std.proofs.lemmas.List.Kept.{AllPairs-filter}
 use Rattle.item_theory.specs.Chains.{Closure, kept, opened, opens}
 use Rattle.grammar_data.specs.Grammar.{Grammar}
-use Rattle.lr_base.specs.TokenSet.{IsTokenSet, has_token}
-use Rattle.lr_base.proofs.TokenSetLemmas.{equal_from_members}
+use Rattle.grammar_data.specs.TokenSet.{IsTokenSet, has_token}
+use Rattle.grammar_data.proofs.TokenSetLemmas.{equal_from_members}
 use Rattle.item_theory.specs.Items.{Item}
 use Rattle.item_sets.specs.declared.entry.Entry.{Entry}
 use Rattle.item_sets.specs.Entries.{entry_has, entries_have, IsEntryBefore, IsEntry, AreEntries}

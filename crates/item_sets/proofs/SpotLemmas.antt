@@ -1,7 +1,7 @@
 -- What is found in some symbols, as far as a walk over them has come.
 use Rattle.std.proofs.Common.{ℕ, ◌⊎◌, IsTrue, List}
 use Rattle.grammar_data.specs.declared.rule.Sym.{Sym}
-use Rattle.lr_base.specs.TokenSet.{has_token}
+use Rattle.grammar_data.specs.TokenSet.{has_token}
 use Rattle.grammar_theory.specs.Rules.{OnlyNames}
 use Rattle.grammar_theory.specs.FirstTokens.{IsFirstBy}
 use Rattle.first_sets.specs.NameFacts.{NameFacts, first_set_in, nullable_in}

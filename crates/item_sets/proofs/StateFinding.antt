@@ -8,7 +8,7 @@ use Rattle.std.proofs.lemmas.List.Elements.{All-weaker, All-push, All-get_or}
 use Rattle.std.proofs.lemmas.Option.{slice_get_within, get_or_from_slice_get, same_Some, none-some}
 use Rattle.grammar_data.specs.Grammar.{Grammar}
 use Rattle.grammar_theory.proofs.RuleLemmas.{slice_get_last, slice_get_cases}
-use Rattle.lr_base.specs.TokenSet.{IsTokenSet}
+use Rattle.grammar_data.specs.TokenSet.{IsTokenSet}
 use Rattle.item_theory.specs.Chains.{Closure}
 use Rattle.item_sets.specs.declared.entry.Entry.{Entry}
 use Rattle.item_sets.specs.Entries.{entries_have, IsEntry, AreEntries}

@@ -4,7 +4,7 @@ use Rattle.std.specs.Prelude.{◌≡◌, ℕ, zero, suc, ◌+◌, ◌*◌, ◌<�
 use Rattle.grammar_data.specs.declared.rule.Sym.{Sym}
 use Rattle.grammar_data.specs.declared.rule.Sym.TheVariants.{Token, Name}
 use Rattle.grammar_data.specs.Grammar.{Grammar}
-use Rattle.lr_base.specs.TokenSet.{IsTokenSet, has_token}
+use Rattle.grammar_data.specs.TokenSet.{IsTokenSet, has_token}
 use Rattle.grammar_theory.specs.Rules.{IsRule, IsInRange}
 use Rattle.grammar_theory.specs.UsefulNames.{AllProductive}
 use Rattle.grammar_theory.specs.FirstTokens.{IsFound}

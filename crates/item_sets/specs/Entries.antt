@@ -3,7 +3,7 @@ use Rattle.std.specs.Prelude.{◌≡◌, ℕ, ◌<◌, ◌≤◌, ◌⊎◌, Boo
 use Rattle.std.specs.List.{list_any}
 use Rattle.grammar_data.specs.declared.rule.Sym.{Sym}
 use Rattle.grammar_data.specs.Grammar.{Grammar}
-use Rattle.lr_base.specs.TokenSet.{IsTokenSet, has_token}
+use Rattle.grammar_data.specs.TokenSet.{IsTokenSet, has_token}
 use Rattle.grammar_theory.specs.Rules.{IsRule}
 use Rattle.item_theory.specs.Items.{Item, all_rules}
 use Rattle.item_sets.specs.declared.entry.Entry.{Entry}

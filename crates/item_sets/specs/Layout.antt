@@ -1,7 +1,7 @@
 -- How a closure is laid out: rule by rule the entry with the dot in front, and then those of the kernel.
 use Rattle.std.specs.Prelude.{◌≡◌, ◌≢◌, ℕ, suc, ◌<◌, ◌≤◌, ◌↔◌, ◌⊎◌, false, IsTrue, List, [], ◌∷◌, ◌++◌, length, drop, slice_index_or, All}
 use Rattle.grammar_data.specs.Grammar.{Grammar}
-use Rattle.lr_base.specs.TokenSet.{has_token}
+use Rattle.grammar_data.specs.TokenSet.{has_token}
 use Rattle.item_theory.specs.Items.{Item}
 use Rattle.item_theory.specs.Chains.{Closure}
 use Rattle.item_sets.specs.declared.entry.Entry.{Entry}

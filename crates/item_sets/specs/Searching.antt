@@ -6,7 +6,7 @@ use Rattle.std.specs.Global.{Vec}
 use Rattle.grammar_data.specs.declared.rule.Sym.{Sym}
 use Rattle.grammar_data.specs.declared.rule.Sym.TheVariants.{Token, Name}
 use Rattle.grammar_data.specs.Grammar.{Grammar}
-use Rattle.lr_base.specs.TokenSet.{IsTokenSet, has_token}
+use Rattle.grammar_data.specs.TokenSet.{IsTokenSet, has_token}
 use Rattle.item_theory.specs.Items.{Item, IsValid, IsViable}
 use Rattle.item_theory.specs.Chains.{Closure}
 use Rattle.item_theory.specs.LeadingWords.{AreStates}

@@ -1,5 +1,5 @@
 ghost use Rattle.std.specs.Prelude.{◌≡◌, ℕ, ◌<◌, ◌≤◌, ◌+◌, ◌==◌, [], length, All, IfErr, IfOk};
-ghost use Rattle.lr_base.specs.TokenSet.{IsTokenSet, has_token};
+ghost use Rattle.grammar_data.specs.TokenSet.{IsTokenSet, has_token};
 ghost use Rattle.grammar_theory.specs.UsefulNames.{AllProductive};
 ghost use Rattle.first_sets.specs.NameFacts.{AreFirsts};
 ghost use Rattle.item_theory.specs.Collections.{HasMoreStates};

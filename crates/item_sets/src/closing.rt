@@ -1,6 +1,6 @@
 ghost use Rattle.std.specs.Prelude.{◌≡◌, ℕ, ◌<◌, [], ◌∷◌, length, slice_get, slice_index_or, All, IfOk};
 ghost use Rattle.std.specs.Option.{option_to_list};
-ghost use Rattle.lr_base.specs.TokenSet.{IsTokenSet, has_token};
+ghost use Rattle.grammar_data.specs.TokenSet.{IsTokenSet, has_token};
 ghost use Rattle.item_sets.specs.Entries.{AreEntries};
 ghost use Rattle.item_sets.specs.Closing.{IsClosing, IsJoined, IsNameWithin, IsRowOpened, IsSetting, carries};
 

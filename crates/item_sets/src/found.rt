@@ -1,6 +1,6 @@
 ghost use Rattle.std.specs.Prelude.{◌≡◌, ℕ, List, if◌then◌else◌, All, IfOk, Some};
 ghost use Rattle.std.specs.Global.{Vec as Keys};
-ghost use Rattle.lr_base.specs.TokenSet.{IsTokenSet};
+ghost use Rattle.grammar_data.specs.TokenSet.{IsTokenSet};
 ghost use Rattle.item_sets.specs.declared.entry.Entry.{Entry as Lookaheads};
 ghost use Rattle.item_sets.specs.Successors.{key_of};
 ghost use Rattle.item_sets.specs.Found.{same_key, state_at};

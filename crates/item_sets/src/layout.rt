@@ -1,5 +1,5 @@
 ghost use Rattle.std.specs.Prelude.{◌≡◌, ℕ, ◌<◌, ◌≤◌, [], length, All, IfOk, IsTrue};
-ghost use Rattle.lr_base.specs.TokenSet.{IsTokenSet};
+ghost use Rattle.grammar_data.specs.TokenSet.{IsTokenSet};
 ghost use Rattle.item_sets.specs.Closing.{IsClosing, IsSetting};
 ghost use Rattle.item_sets.specs.Layout.{IsClosureOf, IsFrontLaid, IsKernel, IsLaidOut, IsMovedLaid};
 

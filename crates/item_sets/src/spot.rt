@@ -1,7 +1,7 @@
 ghost use Rattle.std.specs.Prelude.{◌≡◌, ◌<◌, ◌≤◌, ◌+◌, Some, All, IfOk, length};
 ghost use Rattle.item_sets.specs.Tables.{column_of};
 ghost use Rattle.lr_base.specs.IsGrammar.{IsSymbolOf};
-ghost use Rattle.lr_base.specs.TokenSet.{IsTokenSet};
+ghost use Rattle.grammar_data.specs.TokenSet.{IsTokenSet};
 ghost use Rattle.first_sets.specs.NameFacts.{AreFirsts, names_in};
 ghost use Rattle.item_sets.specs.Spots.{AreSpots, IsRestBy, IsSpotAt};
 

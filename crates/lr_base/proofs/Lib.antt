@@ -1,3 +1,3 @@
 pub mod FileLemmas
 pub mod GrammarLemmas
-pub mod TokenSetLemmas
+pub mod ReadingLemmas

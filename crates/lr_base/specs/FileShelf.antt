@@ -1,7 +1,21 @@
 -- What a contract sees of the files of the runtime.
-use Rattle.std.specs.Prelude.{ℕ, Bool}
+use Rattle.std.specs.Prelude.{ℕ, Bool, false, List, [], None}
+use Rattle.lr_base.specs.Outside.{ShelfSeen}
 
--- how many calls failed, and whether a file is begun
+-- the names that were begun, whether a file is being read, and how many calls failed
 pub record FilesState : Type 0 where
+  pub begun : List (List ℕ)
+  pub is_reading : Bool
   pub faults : ℕ
-  pub is_begun : Bool
+
+-- what is known of the shelf: it tells no bytes, and serves no name for sure
+abbrev pub files_seen : FilesState → ShelfSeen
+files_seen shelf = record {
+  tells = false;
+  stands = λ _. None;
+  left = None;
+  begun = shelf.begun;
+  faults = shelf.faults;
+  served = [];
+  serving = false;
+}

@@ -2,10 +2,10 @@ pub mod Counts
 pub mod Files
 pub mod Marks
 pub mod MemShelf
+pub mod CountSink
 pub mod Outside
 pub mod Reading
 pub mod MemSink
 pub mod SteadyShelf
 pub mod IsGrammar
-pub mod TokenSet
 pub mod FileShelf

@@ -1,6 +1,7 @@
 -- What a contract sees of a sink in memory, and what a write does to it.
 use Rattle.std.specs.Prelude.{ℕ, ◌-◌, min, Bool, ◌&&◌, ◌||◌, List, [], ◌++◌, length, take, Option, None, Some, if◌then◌else◌, ◌==◌, nat_lt}
 use Rattle.lr_base.specs.Counts.{raised, is_next_among}
+use Rattle.lr_base.specs.Outside.{SinkSeen}
 
 -- the bytes taken so far, how many it has room for, how many one write takes at most, the numbers of the writes that
 -- fail, how many writes there were, and how many of them failed
@@ -19,6 +20,10 @@ empty_sink room step fails = record { taken = []; room = room; step = step; fail
 -- its room, where no write is to fail
 abbrev pub sure_room : SinkState → ℕ
 sure_room sink = (if length sink.fails == 0 then sink.room else 0)
+
+-- what is known of the sink
+abbrev pub sink_seen : SinkState → SinkSeen
+sink_seen sink = record { taken = Some sink.taken; faults = sink.faults; room = sure_room sink }
 
 -- whether a write of the piece fails: it is to fail, or the room is full and the piece isn't empty
 abbrev pub refuses : SinkState → List ℕ → Bool

@@ -1,7 +1,7 @@
-ghost use Rattle.std.specs.Prelude.{◌≡◌, ℕ, ◌+◌, ◌-◌, ◌^◌, ◌<◌, ◌≤◌, List, Option, None, length, min, IfOk};
+ghost use Rattle.std.specs.Prelude.{◌≡◌, ◌+◌, ◌-◌, ◌^◌, length, min};
 ghost use Rattle.std.specs.Io.{WritesAtMost};
-ghost use Rattle.std.specs.Io.KnownBytes.{WriteAppends};
-ghost use Rattle.lr_base.specs.Outside.{HasCause, HasSureRoom};
+ghost use Rattle.lr_base.specs.CountSink.{untold};
+ghost use Rattle.lr_base.specs.Outside.{Writes};
 
 use crate::errors::Failed;
 use crate::sink::Sink;
@@ -39,11 +39,7 @@ impl CountSink {
 }
 
 impl Sink for CountSink {
-    ghost taken = { λ _. None };
-
-    ghost faults = { λ _. 0 };
-
-    ghost room = { λ _. 0 };
+    ghost seen = { λ _. untold };
 
     /// Takes the whole piece.
     fn write(&mut self, bytes: &[u8]) -> Result<usize, Failed>
@@ -51,10 +47,7 @@ impl Sink for CountSink {
         ensures state { self.new ≡ min (self.old + length bytes.now) (2 ^ 64 - 1) }
 
         ensures bound { WritesAtMost result bytes.now }
-        ensures some { IfOk result (λ n. 0 < length bytes.now → 0 < n) }
-        ensures bytes { WriteAppends None None result bytes.now }
-        ensures sure { HasSureRoom None 0 0 }
-        ensures cause { HasCause 0 0 result }
+        ensures writes { Writes untold untold bytes.now result }
     {
         self.count = self.count.saturating_add(bytes.len() as u64);
         Ok(bytes.len())

@@ -151,6 +151,13 @@ impl Grammar {
         })
     }
 
+    /// What holds of every grammar. The body does nothing: a field that is read lets a proof see the invariant.
+    pub fn holds(&self)
+        ensures { IsGrammar self.now }
+    {
+        let _start = self.start;
+    }
+
     /// How many tokens there are; they are numbered from 0.
     pub fn tokens(&self) -> u32
         ensures { result ≡ self.now.tokens }

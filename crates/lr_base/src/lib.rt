@@ -3,6 +3,7 @@
 #![tactic(auto)]
 
 mod count_sink;
+mod counts;
 mod errors;
 mod file_shelf;
 mod files;
@@ -11,6 +12,7 @@ mod grammar;
 mod limits;
 mod mem_shelf;
 mod mem_sink;
+mod names_begun;
 mod reading;
 mod shelf;
 mod sink;
@@ -25,7 +27,7 @@ pub use file_shelf::FileShelf;
 pub use gate::{Gate, OpenGate};
 pub use grammar::Grammar;
 pub use grammar_data::{NameId, Place, Rule, RuleId, StateId, Sym, Token, TokenId};
-pub use limits::{SHEET_BYTES, TEXT_BYTES};
+pub use limits::{READ_BYTES, SHEET_BYTES, TEXT_BYTES};
 pub use mem_shelf::MemShelf;
 pub use mem_sink::MemSink;
 pub use reading::{ReadFault, Text, read_all};

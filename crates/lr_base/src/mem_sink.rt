@@ -1,10 +1,10 @@
-ghost use Rattle.std.specs.Prelude.{◌≡◌, ℕ, ◌<◌, ◌≤◌, List, Option, Some, length, IfOk};
+ghost use Rattle.std.specs.Prelude.{◌≡◌, ◌≤◌, IfOk};
 ghost use Rattle.std.specs.Io.{WritesAtMost};
-ghost use Rattle.std.specs.Io.KnownBytes.{WriteAppends};
 ghost use Rattle.std.specs.Result.{result_ok};
-ghost use Rattle.lr_base.specs.MemSink.{after_write, empty_sink, sure_room, write_count};
-ghost use Rattle.lr_base.specs.Outside.{HasCause, HasSureRoom};
+ghost use Rattle.lr_base.specs.MemSink.{after_write, empty_sink, sink_seen, write_count};
+ghost use Rattle.lr_base.specs.Outside.{HasSureRoom, Writes};
 
+use crate::counts::fail;
 use crate::errors::{Failed, NoMemory};
 use crate::sink::Sink;
 use std::alloc::Global;
@@ -23,8 +23,8 @@ pub struct MemSink {
 }
 
 impl Model for MemSink {
-    ghost use Rattle.std.specs.Prelude.{◌≤◌, Some, length, vec_capacity};
-    ghost use Rattle.lr_base.specs.MemSink.{SinkState, sure_room};
+    ghost use Rattle.std.specs.Prelude.{◌≤◌, length, vec_capacity};
+    ghost use Rattle.lr_base.specs.MemSink.{SinkState, sink_seen};
     ghost use Rattle.lr_base.specs.Outside.{HasSureRoom};
 
     ghost Value = { SinkState };
@@ -39,14 +39,14 @@ impl Model for MemSink {
     } };
 
     ghost invariant = { λ s. (length s.taken.items ≤ s.room) × (s.room ≤ vec_capacity s.taken) × (1 ≤ s.step)
-        × HasSureRoom (Some s.taken.items) (sure_room (record {
+        × HasSureRoom (sink_seen (record {
           taken = s.taken.items;
           room = s.room;
           step = s.step;
           fails = s.fails.items;
           writes = s.writes;
           faults = s.faults;
-        })) s.faults };
+        })) };
 }
 
 impl MemSink {
@@ -59,7 +59,7 @@ impl MemSink {
     ) -> Result<MemSink, NoMemory>
         requires { 1 ≤ step }
         ensures state { IfOk result (λ sink. sink ≡ empty_sink room step fails.items) }
-        ensures sure { IfOk result (λ sink. HasSureRoom (Some sink.taken) (sure_room sink) sink.faults) }
+        ensures sure { IfOk result (λ sink. HasSureRoom (sink_seen sink)) }
     {
         Ok(MemSink {
             taken: Vec::with_capacity(alloc, room)?,
@@ -80,11 +80,7 @@ impl MemSink {
 }
 
 impl Sink for MemSink {
-    ghost taken = { λ s. Some s.taken };
-
-    ghost faults = { λ s. s.faults };
-
-    ghost room = { sure_room };
+    ghost seen = { sink_seen };
 
     /// Fails exactly where this write is to fail, or where the room is full and the piece isn't empty; else takes as
     /// many bytes as the piece has, as one write takes and as there is room for.
@@ -93,22 +89,18 @@ impl Sink for MemSink {
         ensures state { self.new ≡ after_write self.old bytes.now }
 
         ensures bound { WritesAtMost result bytes.now }
-        ensures some { IfOk result (λ n. 0 < length bytes.now → 0 < n) }
-        ensures bytes { WriteAppends (Some self.old.taken) (Some self.new.taken) result bytes.now }
-        ensures room { sure_room self.new ≡ sure_room self.old }
-        ensures sure { HasSureRoom (Some self.new.taken) (sure_room self.new) self.new.faults }
-        ensures cause { HasCause self.old.faults self.new.faults result }
+        ensures writes { Writes (sink_seen self.old) (sink_seen self.new) bytes.now result }
     {
         self.writes = self.writes.saturating_add(1);
         if self.fails.contains(&self.writes)
             || (self.taken.len() == self.room && !bytes.is_empty())
         {
-            self.faults = self.faults.saturating_add(1);
-            return Err(Failed);
+            return Err(fail(&mut self.faults));
         }
         let count = bytes.len().min(self.step).min(self.room - self.taken.len());
         match self.taken.extend_from_slice(&bytes[..count]) {
             Ok(()) => Ok(count),
+            // The memory for the whole room was taken when the sink was made.
             Err(_) => unreachable!(),
         }
     }

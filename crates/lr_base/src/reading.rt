@@ -1,6 +1,7 @@
-ghost use Rattle.std.specs.Prelude.{◌≡◌, ◌≢◌, ◌≤◌, IfOk, IsTrue};
-ghost use Rattle.lr_base.specs.Outside.{Rose, is_listed};
-ghost use Rattle.lr_base.specs.Reading.{MatchText};
+ghost use Rattle.std.specs.Prelude.{◌≡◌, ◌≢◌, ◌≤◌, ◌++◌, ◌∷◌, [], IfOk, IsErr, IsTrue};
+ghost use Rattle.lr_base.specs.declared.limits.TheConstants.{READ_BYTES};
+ghost use Rattle.lr_base.specs.Outside.{IsSameShelf, Rose, is_listed};
+ghost use Rattle.lr_base.specs.Reading.{LosesFront, MatchText};
 
 use crate::errors::Failed;
 use crate::shelf::Shelf;
@@ -49,23 +50,24 @@ impl From<AllocError> for ReadFault {
 const BUFFER_BYTES: usize = 65_536;
 
 /// Reads what stands under a name, as far as it has at most `limit` bytes; of a longer text one byte more is read,
-/// and none after it.
+/// and none after it. This begins the name, and no other. Over a shelf that tells its bytes a name under which nothing
+/// stands can't be read. After an error the shelf lost some of the bytes under the name, and nothing else.
 pub fn read_all<S: Shelf>(
     alloc: Global,
     shelf: &mut S,
     name: &str,
     limit: usize,
 ) -> Result<Text, ReadFault>
-    requires { limit ≤ 67108864 }
-    ensures text { IfOk result (MatchText (S.stands shelf.old name.now) (S.left shelf.new) limit) }
+    requires { limit ≤ READ_BYTES }
+    ensures text { IfOk result (MatchText (S.seen shelf.old) (S.seen shelf.new) name.now limit) }
+    ensures lost { IsErr result → IsTrue (S.seen shelf.old).tells → LosesFront (S.seen shelf.old) (S.seen shelf.new) name.now }
+    ensures begun { (S.seen shelf.new).begun ≡ (S.seen shelf.old).begun ++ name.now ∷ [] }
 
     // No memory is the only other error.
-    ensures failed { result ≡ Err ReadFault.Failed → Rose (S.faults shelf.old) (S.faults shelf.new) }
-    ensures steady { IsTrue (is_listed (S.served shelf.old) name.now) → result ≢ Err ReadFault.Failed }
-
-    ensures later { S.faults shelf.old ≤ S.faults shelf.new }
-    ensures stands { S.stands shelf.new ≡ S.stands shelf.old }
-    ensures served { S.served shelf.new ≡ S.served shelf.old }
+    ensures failed { result ≡ Err ReadFault.Failed → Rose (S.seen shelf.old).faults (S.seen shelf.new).faults }
+    ensures kept { result ≢ Err ReadFault.Failed → (S.seen shelf.new).faults ≡ (S.seen shelf.old).faults }
+    ensures steady { IsTrue (is_listed (S.seen shelf.old).served name.now) → result ≢ Err ReadFault.Failed }
+    ensures same { IsSameShelf (S.seen shelf.old) (S.seen shelf.new) }
 {
     shelf.begin(name)?;
     let mut bytes = Vec::new(alloc);

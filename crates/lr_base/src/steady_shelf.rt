@@ -1,21 +1,22 @@
-ghost use Rattle.std.specs.Prelude.{◌≡◌, ℕ, ◌≤◌, Bool, true, List, [], Option, Some, length, min, drop, OnOk, IsTrue};
+ghost use Rattle.std.specs.Prelude.{◌≡◌, [], length, min};
 ghost use Rattle.std.specs.Io.{ReadsAtMost};
-ghost use Rattle.std.specs.Io.KnownBytes.{ReadConsumes};
-ghost use Rattle.lr_base.specs.Files.{named_bytes, names_of};
-ghost use Rattle.lr_base.specs.Outside.{HasCause, IsSteadyIf, is_listed};
-ghost use Rattle.lr_base.specs.SteadyShelf.{bytes_or_none, standing};
+ghost use Rattle.lr_base.specs.Files.{named_bytes};
+ghost use Rattle.lr_base.specs.Outside.{Begins, ReadsOn};
+ghost use Rattle.lr_base.specs.SteadyShelf.{steady_seen, with_begun, with_read};
 
 use crate::errors::Failed;
 use crate::files::{Mark, find_file, read_from};
+use crate::names_begun::NamesBegun;
 use crate::shelf::Shelf;
 use std::marker::Model;
 
-/// A shelf of files in memory that never fails: under a name that no file has stand no bytes, and where nothing is
-/// begun none are left. Of several files with one name the first stands under it.
+/// A shelf of files in memory that never fails: under a name that no file has stand no bytes, and where nothing
+/// is being read none are left. Of several files with one name the first stands under it.
 #[derive(Drop)]
 pub struct SteadyShelf {
     files: Vec<(String, Vec<u8>)>,
-    begun: Option<Mark>,
+    begun: NamesBegun,
+    reading: Option<Mark>,
 }
 
 impl Model for SteadyShelf {
@@ -29,65 +30,54 @@ impl Model for SteadyShelf {
 
     ghost view = { λ s. record {
       files = named_bytes s.files.items;
-      left = unwrap_or (option_and_then (bytes_from (named_bytes s.files.items)) s.begun) [];
+      begun = s.begun.names;
+      left = unwrap_or (option_and_then (bytes_from (named_bytes s.files.items)) s.reading) [];
     } };
 
-    ghost invariant = { λ s. IfSome s.begun (IsMarkIn (named_bytes s.files.items)) };
+    ghost invariant = { λ s. IfSome s.reading (IsMarkIn (named_bytes s.files.items)) };
 }
 
 impl SteadyShelf {
-    /// A shelf of these files, each with its name; nothing is begun.
+    /// A shelf of these files, each with its name; nothing was begun.
     pub fn new(files: Vec<(String, Vec<u8>)>) -> SteadyShelf
-        ensures { result ≡ record { files = named_bytes files.items; left = [] } }
+        ensures { result ≡ record { files = named_bytes files.items; begun = []; left = [] } }
     {
-        SteadyShelf { files, begun: None }
+        SteadyShelf {
+            files,
+            begun: NamesBegun::new(),
+            reading: None,
+        }
     }
 }
 
 impl Shelf for SteadyShelf {
-    ghost stands = { λ s. standing s.files };
-
-    ghost left = { λ s. Some s.left };
-
-    ghost faults = { λ _. 0 };
-
-    ghost served = { λ s. names_of s.files };
-
-    ghost serving = { λ _. true };
+    ghost seen = { steady_seen };
 
     /// Begins what stands under the name.
     fn begin(&mut self, name: &str) -> Result<(), Failed>
         ensures answer { result ≡ Ok tt }
-        ensures state { self.new ≡ record self.old { left = bytes_or_none self.old.files name.now } }
+        ensures state { self.new ≡ with_begun self.old name.now }
 
-        ensures left { OnOk result (Some self.new.left ≡ standing self.old.files name.now) }
-        ensures stands { standing self.new.files ≡ standing self.old.files }
-        ensures served { names_of self.new.files ≡ names_of self.old.files }
-        ensures serving { IsTrue (is_listed (names_of self.old.files) name.now) → IsTrue true }
-        ensures steady { IsSteadyIf (is_listed (names_of self.old.files) name.now) result }
-        ensures cause { HasCause 0 0 result }
+        ensures begins { Begins (steady_seen self.old) (steady_seen self.new) name.now result }
     {
-        self.begun = find_file(&self.files, name);
+        self.begun = NamesBegun::with(&self.begun, name);
+        self.reading = find_file(&self.files, name);
         Ok(())
     }
 
     /// Gives as many bytes as are left and as the buffer has room for.
     fn read(&mut self, buffer: &mut [u8]) -> Result<usize, Failed>
         ensures answer { result ≡ Ok (min (length self.old.left) (length buffer.old)) }
-        ensures state { self.new ≡ record self.old { left = drop (length buffer.old) self.old.left } }
+        ensures state { self.new ≡ with_read self.old (length buffer.old) }
 
         ensures bound { ReadsAtMost result buffer.new }
-        ensures bytes { ReadConsumes (Some self.old.left) (Some self.new.left) result buffer.new }
-        ensures stands { standing self.new.files ≡ standing self.old.files }
-        ensures served { names_of self.new.files ≡ names_of self.old.files }
-        ensures steady { IsSteadyIf true result }
-        ensures cause { HasCause 0 0 result }
+        ensures reads { ReadsOn (steady_seen self.old) (steady_seen self.new) buffer.new result }
     {
-        let Some(mark) = self.begun else {
+        let Some(mark) = self.reading else {
             return Ok(0);
         };
         let count = read_from(&self.files, mark, buffer);
-        self.begun = Some(Mark {
+        self.reading = Some(Mark {
             file: mark.file,
             at: mark.at + count,
         });

@@ -1,5 +1,6 @@
-ghost use Rattle.std.specs.Prelude.{◌≡◌, ℕ, List, Option, None};
+ghost use Rattle.std.specs.Prelude.{◌≡◌, None};
 
+use crate::counts::fail;
 use crate::errors::Failed;
 use crate::sink::Sink;
 use std::io::{Stderr, Stdout, Write};
@@ -36,11 +37,7 @@ impl<W: Write + Drop> StreamSink<W> {
 }
 
 impl<W: Write + Drop> Sink for StreamSink<W> {
-    ghost taken = { λ _. None };
-
-    ghost faults = { λ s. s };
-
-    ghost room = { λ _. 0 };
+    ghost seen = { λ faults. record { taken = None; faults = faults; room = 0 } };
 
     /// Writes to the stream; where that takes nothing of a piece that isn't empty, it is a failed call.
     fn write(&mut self, bytes: &[u8]) -> Result<usize, Failed> {
@@ -49,7 +46,6 @@ impl<W: Write + Drop> Sink for StreamSink<W> {
         {
             return Ok(count);
         }
-        self.faults = self.faults.saturating_add(1);
-        Err(Failed)
+        Err(fail(&mut self.faults))
     }
 }

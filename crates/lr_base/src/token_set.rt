@@ -1,5 +1,5 @@
 ghost use Rattle.std.specs.Prelude.{◌≡◌, ◌≢◌, ◌↔◌, ℕ, ◌+◌, ◌*◌, ◌/◌, ◌%◌, ◌^◌, ◌<◌, ◌==◌, ◌||◌, true, false, List, length, slice_index, bit_or, IsTrue, MatchBool};
-ghost use Rattle.lr_base.specs.TokenSet.{AreEqualByMembers, IsTokenSet, has_token};
+ghost use Rattle.grammar_data.specs.TokenSet.{AreEqualByMembers, IsTokenSet, has_token};
 
 use grammar_data::TokenId;
 use std::marker::Model;
@@ -15,7 +15,7 @@ pub struct TokenSet {
 
 impl Model for TokenSet {
     ghost use Rattle.std.specs.Prelude.{ℕ, List};
-    ghost use Rattle.lr_base.specs.TokenSet.{IsTokenSet};
+    ghost use Rattle.grammar_data.specs.TokenSet.{IsTokenSet};
 
     ghost Value = { List ℕ };
 

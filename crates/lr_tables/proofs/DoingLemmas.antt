@@ -8,7 +8,7 @@ use Rattle.std.proofs.Math.Seq.{drop-cons}
 use Rattle.grammar_data.specs.declared.rule.Sym.{Sym}
 use Rattle.grammar_data.specs.declared.rule.Sym.TheVariants.{Token, Name}
 use Rattle.grammar_data.specs.Grammar.{Rule, Grammar}
-use Rattle.lr_base.specs.TokenSet.{has_token}
+use Rattle.grammar_data.specs.TokenSet.{has_token}
 use Rattle.grammar_theory.specs.Rules.{IsRule, end_mark}
 use Rattle.item_theory.specs.Items.{Item, Dotted, Deed, Does, shifts, reduces, accepts, all_rules, Shift as to_shift, Reduce as to_reduce, Accept as to_accept}
 use Rattle.item_theory.proofs.ItemLemmas.{WhichRule, is_own, is_last, which_rule, dotted_once}

@@ -4,7 +4,7 @@ use Rattle.std.proofs.lemmas.Bool.{cases_order, or_cases, false≢true}
 use Rattle.std.proofs.lemmas.List.{get_or-take, get_or_default, length-take-le}
 use Rattle.std.proofs.lemmas.List.Folds.{list_any_more, Any-from_list_any}
 use Rattle.grammar_data.specs.Grammar.{Grammar}
-use Rattle.lr_base.specs.TokenSet.{IsTokenSet, has_token}
+use Rattle.grammar_data.specs.TokenSet.{IsTokenSet, has_token}
 use Rattle.item_theory.specs.Items.{Item, Deed, Does}
 use Rattle.item_theory.proofs.ItemLemmas.{item_same}
 use Rattle.item_sets.specs.declared.entry.Entry.{Entry}

@@ -5,7 +5,7 @@ use Rattle.std.proofs.lemmas.Option.{same_Some}
 use Rattle.grammar_data.specs.declared.rule.Sym.{Sym}
 use Rattle.grammar_data.specs.declared.rule.Sym.TheVariants.{Token}
 use Rattle.grammar_data.specs.Grammar.{Grammar}
-use Rattle.lr_base.specs.TokenSet.{has_token}
+use Rattle.grammar_data.specs.TokenSet.{has_token}
 use Rattle.grammar_theory.specs.Rules.{IsInRange, end_mark}
 use Rattle.item_theory.specs.Items.{Item, Deed, Does, shifts, reduces, accepts, Shift as to_shift, Reduce as to_reduce, Accept as to_accept}
 use Rattle.item_theory.specs.Chains.{moves}

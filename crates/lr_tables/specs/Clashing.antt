@@ -1,7 +1,7 @@
 -- The least items of some entries that act on a token, and that do something else on it than is known.
 use Rattle.std.specs.Prelude.{◌≡◌, ◌≢◌, ℕ, ◌<◌, false, IsTrue, List, Some}
 use Rattle.grammar_data.specs.Grammar.{Grammar}
-use Rattle.lr_base.specs.TokenSet.{has_token}
+use Rattle.grammar_data.specs.TokenSet.{has_token}
 use Rattle.item_theory.specs.Items.{Item, Deed, Does}
 use Rattle.item_sets.specs.declared.entry.Entry.{Entry}
 use Rattle.table_theory.specs.Deeds.{IsItemUpTo, IsLeastToAct, IsLeastToDiffer}

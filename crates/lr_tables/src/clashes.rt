@@ -1,5 +1,5 @@
 ghost use Rattle.std.specs.Prelude.{◌≡◌, ℕ, ◌<◌, ◌≤◌, IsTrue, MatchOption};
-ghost use Rattle.lr_base.specs.TokenSet.{has_token};
+ghost use Rattle.grammar_data.specs.TokenSet.{has_token};
 ghost use Rattle.item_sets.specs.Entries.{AreEntries};
 ghost use Rattle.table_theory.specs.Clashes.{HasClash};
 ghost use Rattle.lr_tables.specs.Doings.{HaveItem, IsOn};

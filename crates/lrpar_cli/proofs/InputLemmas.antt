@@ -1,6 +1,7 @@
 -- What a reading that stopped at the limit says.
 use Rattle.std.proofs.Common.{◌≡◌, ◌≢◌, ℕ, ◌+◌, ◌<◌, List, length, Option, Some, None, Result, Ok, Err, IfOk, IfErr, refl, sym, ap, subst, arith, length-append, inl, inr}
 use Rattle.std.specs.Io.KnownBytes.{Consumes}
+use Rattle.lr_base.specs.Outside.{ShelfSeen}
 use Rattle.lr_base.specs.Reading.{IsTooLong}
 use Rattle.pattern_data.specs.declared.pattern.Pattern.{Pattern}
 use Rattle.outline_data.specs.declared.fault.LimitKind.TheVariants.{SheetBytes}
@@ -29,14 +30,14 @@ over_limit None left limit front e c = record { bytes = front; read = tt; over =
 over_limit (Some all) None limit front e c = absurd c
 over_limit (Some all) (Some rest) limit front e c = record { bytes = all; read = refl; over = omega (arith, e, ap length c, length-append front rest) }
 
-pub long_text : (stood left : Option (List ℕ)) → IsTooLong stood left text_limit → IsLongText stood
-long_text stood left h =
-    let o = over_limit stood left text_limit h.front h.over h.consumed in
+pub long_text : (before after : ShelfSeen) (name : List ℕ) → IsTooLong before after name text_limit → IsLongText (before.stands name)
+long_text before after name h =
+    let o = over_limit (before.stands name) after.left text_limit h.front h.over h.consumed in
     record { text = o.bytes; read = o.read; long = o.over }
 
-pub long_sheet : (stood left : Option (List ℕ)) (stop : Stop) → IsTooLong stood left 262144 → IsRefusal (fault_text (Limit SheetBytes 262145)) stop → (said : List ℕ) → stop ≡ sheet_stop said → IsRefusedSheet stood said
-long_sheet stood left stop h refusal said e =
-    let o = over_limit stood left 262144 h.front h.over h.consumed in
+pub long_sheet : (before after : ShelfSeen) (name : List ℕ) (stop : Stop) → IsTooLong before after name 262144 → IsRefusal (fault_text (Limit SheetBytes 262145)) stop → (said : List ℕ) → stop ≡ sheet_stop said → IsRefusedSheet (before.stands name) said
+long_sheet before after name stop h refusal said e =
+    let o = over_limit (before.stands name) after.left 262144 h.front h.over h.consumed in
     record { bytes = o.bytes; read = o.read; refused = record { fault = Limit SheetBytes 262145; found = of_reading (IsFirstFault.too_long o.over); is = subst (IsRefusal (fault_text (Limit SheetBytes 262145))) e refusal } }
 
 -- the refusal of bytes that were read

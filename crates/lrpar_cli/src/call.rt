@@ -29,9 +29,9 @@ const WRITE_FAULT: &[u8] = b"write fault\n";
 
 /// Says something on the error output and ends with the status, or with a write fault.
 fn say<E: Sink>(err: &mut E, said: &[u8], status: Status) -> Status
-    ensures spoken { IsSpoken (E.taken err.old) (E.taken err.new) (E.room err.old) (E.faults err.old) (E.faults err.new) said.now status result }
-    ensures later { E.faults err.old ≤ E.faults err.new }
-    ensures room { E.room err.new ≡ E.room err.old }
+    ensures spoken { IsSpoken ((E.seen err.old).taken) ((E.seen err.new).taken) ((E.seen err.old).room) ((E.seen err.old).faults) ((E.seen err.new).faults) said.now status result }
+    ensures later { (E.seen err.old).faults ≤ (E.seen err.new).faults }
+    ensures room { (E.seen err.new).room ≡ (E.seen err.old).room }
 {
     match write_all(err, said) {
         Ok(()) => status,
@@ -41,10 +41,10 @@ fn say<E: Sink>(err: &mut E, said: &[u8], status: Status) -> Status
 
 /// Says why a command does not come to its output; of want of memory nothing is said.
 fn say_stop<E: Sink>(err: &mut E, stop: Stop) -> Status
-    ensures said { IsStopSaid (E.taken err.old) (E.taken err.new) (E.room err.old) (E.faults err.old) (E.faults err.new) stop result }
+    ensures said { IsStopSaid ((E.seen err.old).taken) ((E.seen err.new).taken) ((E.seen err.old).room) ((E.seen err.old).faults) ((E.seen err.new).faults) stop result }
     ensures unsaid { IsSilent result → err.new ≡ err.old }
-    ensures later { E.faults err.old ≤ E.faults err.new }
-    ensures room { E.room err.new ≡ E.room err.old }
+    ensures later { (E.seen err.old).faults ≤ (E.seen err.new).faults }
+    ensures room { (E.seen err.new).room ≡ (E.seen err.old).room }
 {
     match stop {
         Stop::Sheet(said) => say(err, said.as_slice(), Status::Sheet),
@@ -65,23 +65,23 @@ fn write_tokens<O: Sink, E: Sink>(
     requires short { length text.now ≤ text_limit }
     requires ready { IsReady accepted.now }
     ensures listing { IsListing accepted.now.sheet text.now (record {
-      out_room = O.room out.old;
-      err_room = E.room err.old;
-      out_before = O.taken out.old;
-      out_after = O.taken out.new;
-      out_faults_before = O.faults out.old;
-      out_faults_after = O.faults out.new;
-      err_before = E.taken err.old;
-      err_after = E.taken err.new;
-      err_faults_before = E.faults err.old;
-      err_faults_after = E.faults err.new;
+      out_room = (O.seen out.old).room;
+      err_room = (E.seen err.old).room;
+      out_before = (O.seen out.old).taken;
+      out_after = (O.seen out.new).taken;
+      out_faults_before = (O.seen out.old).faults;
+      out_faults_after = (O.seen out.new).faults;
+      err_before = (E.seen err.old).taken;
+      err_after = (E.seen err.new).taken;
+      err_faults_before = (E.seen err.old).faults;
+      err_faults_after = (E.seen err.new).faults;
     }) result }
     ensures early { ¬ (StopsEarly result) }
     ensures silent { IsSilent result → err.new ≡ err.old }
-    ensures out_later { O.faults out.old ≤ O.faults out.new }
-    ensures out_room { O.room out.new ≡ O.room out.old }
-    ensures err_later { E.faults err.old ≤ E.faults err.new }
-    ensures err_room { E.room err.new ≡ E.room err.old }
+    ensures out_later { (O.seen out.old).faults ≤ (O.seen out.new).faults }
+    ensures out_room { (O.seen out.new).room ≡ (O.seen out.old).room }
+    ensures err_later { (E.seen err.old).faults ≤ (E.seen err.new).faults }
+    ensures err_room { (E.seen err.new).room ≡ (E.seen err.old).room }
 {
     let lexed = match lex_text(alloc, accepted, text) {
         Ok(lexed) => lexed,
@@ -108,28 +108,28 @@ fn list_tokens<S: Shelf, O: Sink, E: Sink>(
     err: &mut E,
 ) -> Status
     ensures ending { (words : List (List ℕ)) → HasForm words (Tokens sheet_name.now text_name.now)
-        → IsEnding (S.stands shelf.old) (S.served shelf.old) words (S.faults shelf.old) (S.faults shelf.new) (record {
-          out_room = O.room out.old;
-          err_room = E.room err.old;
-          out_before = O.taken out.old;
-          out_after = O.taken out.new;
-          out_faults_before = O.faults out.old;
-          out_faults_after = O.faults out.new;
-          err_before = E.taken err.old;
-          err_after = E.taken err.new;
-          err_faults_before = E.faults err.old;
-          err_faults_after = E.faults err.new;
+        → IsEnding ((S.seen shelf.old).stands) ((S.seen shelf.old).served) words ((S.seen shelf.old).faults) ((S.seen shelf.new).faults) (record {
+          out_room = (O.seen out.old).room;
+          err_room = (E.seen err.old).room;
+          out_before = (O.seen out.old).taken;
+          out_after = (O.seen out.new).taken;
+          out_faults_before = (O.seen out.old).faults;
+          out_faults_after = (O.seen out.new).faults;
+          err_before = (E.seen err.old).taken;
+          err_after = (E.seen err.new).taken;
+          err_faults_before = (E.seen err.old).faults;
+          err_faults_after = (E.seen err.new).faults;
         }) result }
     ensures early { StopsEarly result → out.new ≡ out.old }
     ensures silent { IsSilent result → err.new ≡ err.old }
     ensures words { result ≢ Status.Words }
-    ensures stands { S.stands shelf.new ≡ S.stands shelf.old }
-    ensures served { S.served shelf.new ≡ S.served shelf.old }
-    ensures later { S.faults shelf.old ≤ S.faults shelf.new }
-    ensures out_later { O.faults out.old ≤ O.faults out.new }
-    ensures out_room { O.room out.new ≡ O.room out.old }
-    ensures err_later { E.faults err.old ≤ E.faults err.new }
-    ensures err_room { E.room err.new ≡ E.room err.old }
+    ensures stands { (S.seen shelf.new).stands ≡ (S.seen shelf.old).stands }
+    ensures served { (S.seen shelf.new).served ≡ (S.seen shelf.old).served }
+    ensures later { (S.seen shelf.old).faults ≤ (S.seen shelf.new).faults }
+    ensures out_later { (O.seen out.old).faults ≤ (O.seen out.new).faults }
+    ensures out_room { (O.seen out.new).room ≡ (O.seen out.old).room }
+    ensures err_later { (E.seen err.old).faults ≤ (E.seen err.new).faults }
+    ensures err_room { (E.seen err.new).room ≡ (E.seen err.old).room }
 {
     let accepted = match read_accepted(alloc, shelf, sheet_name) {
         Ok(accepted) => accepted,
@@ -145,23 +145,23 @@ fn list_tokens<S: Shelf, O: Sink, E: Sink>(
 /// Writes a sheet's normal layout.
 fn write_layout<O: Sink, E: Sink>(alloc: Global, sheet: &Sheet, out: &mut O, err: &mut E) -> Status
     ensures writing { IsWriting (layout sheet.now) (record {
-      out_room = O.room out.old;
-      err_room = E.room err.old;
-      out_before = O.taken out.old;
-      out_after = O.taken out.new;
-      out_faults_before = O.faults out.old;
-      out_faults_after = O.faults out.new;
-      err_before = E.taken err.old;
-      err_after = E.taken err.new;
-      err_faults_before = E.faults err.old;
-      err_faults_after = E.faults err.new;
+      out_room = (O.seen out.old).room;
+      err_room = (E.seen err.old).room;
+      out_before = (O.seen out.old).taken;
+      out_after = (O.seen out.new).taken;
+      out_faults_before = (O.seen out.old).faults;
+      out_faults_after = (O.seen out.new).faults;
+      err_before = (E.seen err.old).taken;
+      err_after = (E.seen err.new).taken;
+      err_faults_before = (E.seen err.old).faults;
+      err_faults_after = (E.seen err.new).faults;
     }) result }
     ensures early { ¬ (StopsEarly result) }
     ensures silent { IsSilent result → err.new ≡ err.old }
-    ensures out_later { O.faults out.old ≤ O.faults out.new }
-    ensures out_room { O.room out.new ≡ O.room out.old }
-    ensures err_later { E.faults err.old ≤ E.faults err.new }
-    ensures err_room { E.room err.new ≡ E.room err.old }
+    ensures out_later { (O.seen out.old).faults ≤ (O.seen out.new).faults }
+    ensures out_room { (O.seen out.new).room ≡ (O.seen out.old).room }
+    ensures err_later { (E.seen err.old).faults ≤ (E.seen err.new).faults }
+    ensures err_room { (E.seen err.new).room ≡ (E.seen err.old).room }
 {
     let text = match print_sheet(alloc, sheet) {
         Ok(text) => text,
@@ -183,23 +183,23 @@ fn write_states<O: Sink, E: Sink>(
 ) -> Status
     requires { AreBuiltOf sheet.now.grammar built.now.collection built.now.tables }
     ensures writing { IsWriting (tables_text sheet.now built.now.collection built.now.tables) (record {
-      out_room = O.room out.old;
-      err_room = E.room err.old;
-      out_before = O.taken out.old;
-      out_after = O.taken out.new;
-      out_faults_before = O.faults out.old;
-      out_faults_after = O.faults out.new;
-      err_before = E.taken err.old;
-      err_after = E.taken err.new;
-      err_faults_before = E.faults err.old;
-      err_faults_after = E.faults err.new;
+      out_room = (O.seen out.old).room;
+      err_room = (E.seen err.old).room;
+      out_before = (O.seen out.old).taken;
+      out_after = (O.seen out.new).taken;
+      out_faults_before = (O.seen out.old).faults;
+      out_faults_after = (O.seen out.new).faults;
+      err_before = (E.seen err.old).taken;
+      err_after = (E.seen err.new).taken;
+      err_faults_before = (E.seen err.old).faults;
+      err_faults_after = (E.seen err.new).faults;
     }) result }
     ensures early { ¬ (StopsEarly result) }
     ensures silent { IsSilent result → err.new ≡ err.old }
-    ensures out_later { O.faults out.old ≤ O.faults out.new }
-    ensures out_room { O.room out.new ≡ O.room out.old }
-    ensures err_later { E.faults err.old ≤ E.faults err.new }
-    ensures err_room { E.room err.new ≡ E.room err.old }
+    ensures out_later { (O.seen out.old).faults ≤ (O.seen out.new).faults }
+    ensures out_room { (O.seen out.new).room ≡ (O.seen out.old).room }
+    ensures err_later { (E.seen err.old).faults ≤ (E.seen err.new).faults }
+    ensures err_room { (E.seen err.new).room ≡ (E.seen err.old).room }
 {
     let names = match sheet.token_texts() {
         Ok(names) => names,
@@ -223,23 +223,23 @@ fn write_output<O: Sink, E: Sink>(
 ) -> Status
     requires { AreBuiltOf sheet.now.grammar built.now.collection built.now.tables }
     ensures printing { IsPrinting output sheet.now (record {
-      out_room = O.room out.old;
-      err_room = E.room err.old;
-      out_before = O.taken out.old;
-      out_after = O.taken out.new;
-      out_faults_before = O.faults out.old;
-      out_faults_after = O.faults out.new;
-      err_before = E.taken err.old;
-      err_after = E.taken err.new;
-      err_faults_before = E.faults err.old;
-      err_faults_after = E.faults err.new;
+      out_room = (O.seen out.old).room;
+      err_room = (E.seen err.old).room;
+      out_before = (O.seen out.old).taken;
+      out_after = (O.seen out.new).taken;
+      out_faults_before = (O.seen out.old).faults;
+      out_faults_after = (O.seen out.new).faults;
+      err_before = (E.seen err.old).taken;
+      err_after = (E.seen err.new).taken;
+      err_faults_before = (E.seen err.old).faults;
+      err_faults_after = (E.seen err.new).faults;
     }) result }
     ensures early { ¬ (StopsEarly result) }
     ensures silent { IsSilent result → err.new ≡ err.old }
-    ensures out_later { O.faults out.old ≤ O.faults out.new }
-    ensures out_room { O.room out.new ≡ O.room out.old }
-    ensures err_later { E.faults err.old ≤ E.faults err.new }
-    ensures err_room { E.room err.new ≡ E.room err.old }
+    ensures out_later { (O.seen out.old).faults ≤ (O.seen out.new).faults }
+    ensures out_room { (O.seen out.new).room ≡ (O.seen out.old).room }
+    ensures err_later { (E.seen err.old).faults ≤ (E.seen err.new).faults }
+    ensures err_room { (E.seen err.new).room ≡ (E.seen err.old).room }
 {
     match output {
         Output::Layout => write_layout(alloc, sheet, out, err),
@@ -257,28 +257,28 @@ fn print_output<S: Shelf, O: Sink, E: Sink>(
     err: &mut E,
 ) -> Status
     ensures ending { (words : List (List ℕ)) → HasForm words (Print output sheet_name.now)
-        → IsEnding (S.stands shelf.old) (S.served shelf.old) words (S.faults shelf.old) (S.faults shelf.new) (record {
-          out_room = O.room out.old;
-          err_room = E.room err.old;
-          out_before = O.taken out.old;
-          out_after = O.taken out.new;
-          out_faults_before = O.faults out.old;
-          out_faults_after = O.faults out.new;
-          err_before = E.taken err.old;
-          err_after = E.taken err.new;
-          err_faults_before = E.faults err.old;
-          err_faults_after = E.faults err.new;
+        → IsEnding ((S.seen shelf.old).stands) ((S.seen shelf.old).served) words ((S.seen shelf.old).faults) ((S.seen shelf.new).faults) (record {
+          out_room = (O.seen out.old).room;
+          err_room = (E.seen err.old).room;
+          out_before = (O.seen out.old).taken;
+          out_after = (O.seen out.new).taken;
+          out_faults_before = (O.seen out.old).faults;
+          out_faults_after = (O.seen out.new).faults;
+          err_before = (E.seen err.old).taken;
+          err_after = (E.seen err.new).taken;
+          err_faults_before = (E.seen err.old).faults;
+          err_faults_after = (E.seen err.new).faults;
         }) result }
     ensures early { StopsEarly result → out.new ≡ out.old }
     ensures silent { IsSilent result → err.new ≡ err.old }
     ensures words { result ≢ Status.Words }
-    ensures stands { S.stands shelf.new ≡ S.stands shelf.old }
-    ensures served { S.served shelf.new ≡ S.served shelf.old }
-    ensures later { S.faults shelf.old ≤ S.faults shelf.new }
-    ensures out_later { O.faults out.old ≤ O.faults out.new }
-    ensures out_room { O.room out.new ≡ O.room out.old }
-    ensures err_later { E.faults err.old ≤ E.faults err.new }
-    ensures err_room { E.room err.new ≡ E.room err.old }
+    ensures stands { (S.seen shelf.new).stands ≡ (S.seen shelf.old).stands }
+    ensures served { (S.seen shelf.new).served ≡ (S.seen shelf.old).served }
+    ensures later { (S.seen shelf.old).faults ≤ (S.seen shelf.new).faults }
+    ensures out_later { (O.seen out.old).faults ≤ (O.seen out.new).faults }
+    ensures out_room { (O.seen out.new).room ≡ (O.seen out.old).room }
+    ensures err_later { (E.seen err.old).faults ≤ (E.seen err.new).faults }
+    ensures err_room { (E.seen err.new).room ≡ (E.seen err.old).room }
 {
     let accepted = match read_accepted(alloc, shelf, sheet_name) {
         Ok(accepted) => accepted,
@@ -300,28 +300,28 @@ fn run<S: Shelf, O: Sink, E: Sink>(
     err: &mut E,
 ) -> Status
     ensures ending { (words : List (List ℕ)) (form : Command) → HasForm words form → IsCommand command.entry form
-        → IsEnding (S.stands shelf.old) (S.served shelf.old) words (S.faults shelf.old) (S.faults shelf.new) (record {
-          out_room = O.room out.old;
-          err_room = E.room err.old;
-          out_before = O.taken out.old;
-          out_after = O.taken out.new;
-          out_faults_before = O.faults out.old;
-          out_faults_after = O.faults out.new;
-          err_before = E.taken err.old;
-          err_after = E.taken err.new;
-          err_faults_before = E.faults err.old;
-          err_faults_after = E.faults err.new;
+        → IsEnding ((S.seen shelf.old).stands) ((S.seen shelf.old).served) words ((S.seen shelf.old).faults) ((S.seen shelf.new).faults) (record {
+          out_room = (O.seen out.old).room;
+          err_room = (E.seen err.old).room;
+          out_before = (O.seen out.old).taken;
+          out_after = (O.seen out.new).taken;
+          out_faults_before = (O.seen out.old).faults;
+          out_faults_after = (O.seen out.new).faults;
+          err_before = (E.seen err.old).taken;
+          err_after = (E.seen err.new).taken;
+          err_faults_before = (E.seen err.old).faults;
+          err_faults_after = (E.seen err.new).faults;
         }) result }
     ensures early { StopsEarly result → out.new ≡ out.old }
     ensures silent { IsSilent result → err.new ≡ err.old }
     ensures words { result ≢ Status.Words }
-    ensures stands { S.stands shelf.new ≡ S.stands shelf.old }
-    ensures served { S.served shelf.new ≡ S.served shelf.old }
-    ensures later { S.faults shelf.old ≤ S.faults shelf.new }
-    ensures out_later { O.faults out.old ≤ O.faults out.new }
-    ensures out_room { O.room out.new ≡ O.room out.old }
-    ensures err_later { E.faults err.old ≤ E.faults err.new }
-    ensures err_room { E.room err.new ≡ E.room err.old }
+    ensures stands { (S.seen shelf.new).stands ≡ (S.seen shelf.old).stands }
+    ensures served { (S.seen shelf.new).served ≡ (S.seen shelf.old).served }
+    ensures later { (S.seen shelf.old).faults ≤ (S.seen shelf.new).faults }
+    ensures out_later { (O.seen out.old).faults ≤ (O.seen out.new).faults }
+    ensures out_room { (O.seen out.new).room ≡ (O.seen out.old).room }
+    ensures err_later { (E.seen err.old).faults ≤ (E.seen err.new).faults }
+    ensures err_room { (E.seen err.new).room ≡ (E.seen err.old).room }
 {
     match command {
         Asked::Tokens { sheet, text } => list_tokens(alloc, sheet, text, shelf, out, err),
@@ -345,18 +345,18 @@ pub fn lrpar<R: Threads + Sync, S: Shelf, O: Sink, E: Sink, G: Gate + Sync>(
     err: &mut E,
     _gate: &G,
 ) -> Status
-    ensures ends { IsEnding (S.stands shelf.old) (S.served shelf.old) (map string_bytes words.now) (S.faults shelf.old) (S.faults shelf.new)
+    ensures ends { IsEnding ((S.seen shelf.old).stands) ((S.seen shelf.old).served) (map string_bytes words.now) ((S.seen shelf.old).faults) ((S.seen shelf.new).faults)
         (record {
-          out_room = O.room out.old;
-          err_room = E.room err.old;
-          out_before = O.taken out.old;
-          out_after = O.taken out.new;
-          out_faults_before = O.faults out.old;
-          out_faults_after = O.faults out.new;
-          err_before = E.taken err.old;
-          err_after = E.taken err.new;
-          err_faults_before = E.faults err.old;
-          err_faults_after = E.faults err.new;
+          out_room = (O.seen out.old).room;
+          err_room = (E.seen err.old).room;
+          out_before = (O.seen out.old).taken;
+          out_after = (O.seen out.new).taken;
+          out_faults_before = (O.seen out.old).faults;
+          out_faults_after = (O.seen out.new).faults;
+          err_before = (E.seen err.old).taken;
+          err_after = (E.seen err.new).taken;
+          err_faults_before = (E.seen err.old).faults;
+          err_faults_after = (E.seen err.new).faults;
         }) result }
 
     ensures words { result ≡ Status.Words → IsBadWords (map string_bytes words.now) }
@@ -365,16 +365,16 @@ pub fn lrpar<R: Threads + Sync, S: Shelf, O: Sink, E: Sink, G: Gate + Sync>(
     ensures early { StopsEarly result → out.new ≡ out.old }
     ensures silent { IsSilent result → err.new ≡ err.old }
 
-    ensures served { (command : Command) → HasForm (map string_bytes words.now) command → AreServed (S.served shelf.old) command → result ≢ Status.ReadFault }
-    ensures room { HaveRoom (S.stands shelf.old) (map string_bytes words.now) (O.taken out.old) (O.room out.old) (E.taken err.old) (E.room err.old) → result ≢ Status.WriteFault }
+    ensures served { (command : Command) → HasForm (map string_bytes words.now) command → AreServed ((S.seen shelf.old).served) command → result ≢ Status.ReadFault }
+    ensures room { HaveRoom ((S.seen shelf.old).stands) (map string_bytes words.now) ((O.seen out.old).taken) ((O.seen out.old).room) ((E.seen err.old).taken) ((E.seen err.old).room) → result ≢ Status.WriteFault }
 
-    ensures stands { S.stands shelf.new ≡ S.stands shelf.old }
-    ensures names { S.served shelf.new ≡ S.served shelf.old }
-    ensures shelf_later { S.faults shelf.old ≤ S.faults shelf.new }
-    ensures out_later { O.faults out.old ≤ O.faults out.new }
-    ensures out_room { O.room out.new ≡ O.room out.old }
-    ensures err_later { E.faults err.old ≤ E.faults err.new }
-    ensures err_room { E.room err.new ≡ E.room err.old }
+    ensures stands { (S.seen shelf.new).stands ≡ (S.seen shelf.old).stands }
+    ensures names { (S.seen shelf.new).served ≡ (S.seen shelf.old).served }
+    ensures shelf_later { (S.seen shelf.old).faults ≤ (S.seen shelf.new).faults }
+    ensures out_later { (O.seen out.old).faults ≤ (O.seen out.new).faults }
+    ensures out_room { (O.seen out.new).room ≡ (O.seen out.old).room }
+    ensures err_later { (E.seen err.old).faults ≤ (E.seen err.new).faults }
+    ensures err_room { (E.seen err.new).room ≡ (E.seen err.old).room }
 {
     match command_of(words) {
         Some(command) => run(alloc, command, shelf, out, err),

@@ -56,15 +56,15 @@ fn refusal(alloc: Global, fault: SheetFault) -> Stop
 
 /// Reads a sheet, which has to be accepted, and builds its scanner.
 pub fn read_accepted<S: Shelf>(alloc: Global, shelf: &mut S, name: &str) -> Result<Accepted, Stop>
-    ensures accepted { IfOk result (λ a. (bytes : List ℕ) × IsRead (S.stands shelf.old name.now) bytes × Accepts bytes a.sheet) }
+    ensures accepted { IfOk result (λ a. (bytes : List ℕ) × IsRead ((S.seen shelf.old).stands name.now) bytes × Accepts bytes a.sheet) }
     ensures ready { IfOk result (λ a. IsReady a) }
-    ensures refused { (said : List ℕ) → result ≡ Err (Stop.Sheet said) → IsRefusedSheet (S.stands shelf.old name.now) said }
+    ensures refused { (said : List ℕ) → result ≡ Err (Stop.Sheet said) → IsRefusedSheet ((S.seen shelf.old).stands name.now) said }
     ensures long { result ≢ Err Stop.TextTooLong }
-    ensures rose { result ≡ Err Stop.ReadFault → Rose (S.faults shelf.old) (S.faults shelf.new) }
-    ensures unserved { result ≡ Err Stop.ReadFault → is_listed (S.served shelf.old) name.now ≡ false }
-    ensures later { S.faults shelf.old ≤ S.faults shelf.new }
-    ensures stands { S.stands shelf.new ≡ S.stands shelf.old }
-    ensures served { S.served shelf.new ≡ S.served shelf.old }
+    ensures rose { result ≡ Err Stop.ReadFault → Rose ((S.seen shelf.old).faults) ((S.seen shelf.new).faults) }
+    ensures unserved { result ≡ Err Stop.ReadFault → is_listed ((S.seen shelf.old).served) name.now ≡ false }
+    ensures later { (S.seen shelf.old).faults ≤ (S.seen shelf.new).faults }
+    ensures stands { (S.seen shelf.new).stands ≡ (S.seen shelf.old).stands }
+    ensures served { (S.seen shelf.new).served ≡ (S.seen shelf.old).served }
 {
     let bytes = match read_all(alloc, shelf, name, SHEET_BYTES) {
         Ok(Text::Whole(bytes)) => bytes,
@@ -158,14 +158,14 @@ pub fn build_sheet(alloc: Global, sheet: &Sheet) -> Result<Built, Stop>
 
 /// Reads a text of at most so many bytes as a text may have.
 pub fn read_text<S: Shelf>(alloc: Global, shelf: &mut S, name: &str) -> Result<Vec<u8>, Stop>
-    ensures whole { IfOk result (λ text. IsRead (S.stands shelf.old name.now) text.items × (length text.items ≤ text_limit)) }
-    ensures long { result ≡ Err Stop.TextTooLong → IsLongText (S.stands shelf.old name.now) }
+    ensures whole { IfOk result (λ text. IsRead ((S.seen shelf.old).stands name.now) text.items × (length text.items ≤ text_limit)) }
+    ensures long { result ≡ Err Stop.TextTooLong → IsLongText ((S.seen shelf.old).stands name.now) }
     ensures sheet { (said : List ℕ) → result ≢ Err (Stop.Sheet said) }
-    ensures rose { result ≡ Err Stop.ReadFault → Rose (S.faults shelf.old) (S.faults shelf.new) }
-    ensures unserved { result ≡ Err Stop.ReadFault → is_listed (S.served shelf.old) name.now ≡ false }
-    ensures later { S.faults shelf.old ≤ S.faults shelf.new }
-    ensures stands { S.stands shelf.new ≡ S.stands shelf.old }
-    ensures served { S.served shelf.new ≡ S.served shelf.old }
+    ensures rose { result ≡ Err Stop.ReadFault → Rose ((S.seen shelf.old).faults) ((S.seen shelf.new).faults) }
+    ensures unserved { result ≡ Err Stop.ReadFault → is_listed ((S.seen shelf.old).served) name.now ≡ false }
+    ensures later { (S.seen shelf.old).faults ≤ (S.seen shelf.new).faults }
+    ensures stands { (S.seen shelf.new).stands ≡ (S.seen shelf.old).stands }
+    ensures served { (S.seen shelf.new).served ≡ (S.seen shelf.old).served }
 {
     match read_all(alloc, shelf, name, TEXT_BYTES) {
         Ok(Text::Whole(text)) => Ok(text),

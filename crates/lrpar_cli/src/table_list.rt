@@ -29,11 +29,11 @@ fn write_state<O: Sink>(
     requires names { names.now ≡ token_names sheet.now }
     requires belong { BelongTo sheet.now.grammar collection.now tables.now }
     requires state { state < tables.now.states }
-    ensures passed { OnOk result (Passes (O.taken out.old) (O.taken out.new) block.old.items block.new.items (state_text sheet.now collection.now tables.now state)) }
-    ensures failed { result ≡ Err ListFault.Failed → Fails (O.taken out.old) (O.taken out.new) (O.room out.old) (O.faults out.old) (O.faults out.new) (block.old.items ++ state_text sheet.now collection.now tables.now state) }
+    ensures passed { OnOk result (Passes ((O.seen out.old).taken) ((O.seen out.new).taken) block.old.items block.new.items (state_text sheet.now collection.now tables.now state)) }
+    ensures failed { result ≡ Err ListFault.Failed → Fails ((O.seen out.old).taken) ((O.seen out.new).taken) ((O.seen out.old).room) ((O.seen out.old).faults) ((O.seen out.new).faults) (block.old.items ++ state_text sheet.now collection.now tables.now state) }
     ensures kept { result ≡ Err ListFault.NoMemory → out.new ≡ out.old }
-    ensures later { O.faults out.old ≤ O.faults out.new }
-    ensures room { O.room out.new ≡ O.room out.old }
+    ensures later { (O.seen out.old).faults ≤ (O.seen out.new).faults }
+    ensures room { (O.seen out.new).room ≡ (O.seen out.old).room }
 {
     if let Err(NoMemory) = push_state(block, names, sheet, collection, tables, state) {
         return Err(ListFault::NoMemory);
@@ -55,11 +55,11 @@ pub fn write_tables<O: Sink>(
 ) -> Result<(), ListFault>
     requires names { names.now ≡ token_names sheet.now }
     requires belong { BelongTo sheet.now.grammar collection.now tables.now }
-    ensures whole { OnOk result (Appends (O.taken out.old) (O.taken out.new) (tables_text sheet.now collection.now tables.now)) }
-    ensures failed { result ≡ Err ListFault.Failed → Fails (O.taken out.old) (O.taken out.new) (O.room out.old) (O.faults out.old) (O.faults out.new) (tables_text sheet.now collection.now tables.now) }
-    ensures cut { result ≡ Err ListFault.NoMemory → AppendsFront (O.taken out.old) (O.taken out.new) (tables_text sheet.now collection.now tables.now) }
-    ensures later { O.faults out.old ≤ O.faults out.new }
-    ensures room { O.room out.new ≡ O.room out.old }
+    ensures whole { OnOk result (Appends ((O.seen out.old).taken) ((O.seen out.new).taken) (tables_text sheet.now collection.now tables.now)) }
+    ensures failed { result ≡ Err ListFault.Failed → Fails ((O.seen out.old).taken) ((O.seen out.new).taken) ((O.seen out.old).room) ((O.seen out.old).faults) ((O.seen out.new).faults) (tables_text sheet.now collection.now tables.now) }
+    ensures cut { result ≡ Err ListFault.NoMemory → AppendsFront ((O.seen out.old).taken) ((O.seen out.new).taken) (tables_text sheet.now collection.now tables.now) }
+    ensures later { (O.seen out.old).faults ≤ (O.seen out.new).faults }
+    ensures room { (O.seen out.new).room ≡ (O.seen out.old).room }
 {
     let mut block = Vec::new(alloc);
     if let Err(NoMemory) = push_states_line(&mut block, tables) {

@@ -120,10 +120,10 @@ fn push_end(list: &mut Vec<u8>, lines: &Lines) -> Result<(), AllocError>
 
 /// Writes the gathered bytes, and gathers from nothing again.
 pub fn write_block<O: Sink>(out: &mut O, block: &mut Vec<u8>) -> Result<(), Failed>
-    ensures whole { OnOk result ((block.new.items ≡ []) × Appends (O.taken out.old) (O.taken out.new) block.old.items) }
-    ensures failed { OnErr result (Fails (O.taken out.old) (O.taken out.new) (O.room out.old) (O.faults out.old) (O.faults out.new) block.old.items) }
-    ensures later { O.faults out.old ≤ O.faults out.new }
-    ensures room { O.room out.new ≡ O.room out.old }
+    ensures whole { OnOk result ((block.new.items ≡ []) × Appends ((O.seen out.old).taken) ((O.seen out.new).taken) block.old.items) }
+    ensures failed { OnErr result (Fails ((O.seen out.old).taken) ((O.seen out.new).taken) ((O.seen out.old).room) ((O.seen out.old).faults) ((O.seen out.new).faults) block.old.items) }
+    ensures later { (O.seen out.old).faults ≤ (O.seen out.new).faults }
+    ensures room { (O.seen out.new).room ≡ (O.seen out.old).room }
 {
     write_all(out, block)?;
     block.clear();
@@ -138,11 +138,11 @@ fn write_token<O: Sink>(
     lines: &Lines,
     token: &Token,
 ) -> Result<(), ListFault>
-    ensures passed { OnOk result (Passes (O.taken out.old) (O.taken out.new) block.old.items block.new.items (token_line names.now lines.now token.now)) }
-    ensures failed { result ≡ Err ListFault.Failed → Fails (O.taken out.old) (O.taken out.new) (O.room out.old) (O.faults out.old) (O.faults out.new) (block.old.items ++ token_line names.now lines.now token.now) }
+    ensures passed { OnOk result (Passes ((O.seen out.old).taken) ((O.seen out.new).taken) block.old.items block.new.items (token_line names.now lines.now token.now)) }
+    ensures failed { result ≡ Err ListFault.Failed → Fails ((O.seen out.old).taken) ((O.seen out.new).taken) ((O.seen out.old).room) ((O.seen out.old).faults) ((O.seen out.new).faults) (block.old.items ++ token_line names.now lines.now token.now) }
     ensures kept { result ≡ Err ListFault.NoMemory → out.new ≡ out.old }
-    ensures later { O.faults out.old ≤ O.faults out.new }
-    ensures room { O.room out.new ≡ O.room out.old }
+    ensures later { (O.seen out.old).faults ≤ (O.seen out.new).faults }
+    ensures room { (O.seen out.new).room ≡ (O.seen out.old).room }
 {
     push_token(block, names, lines, token)?;
     if block.len() >= BLOCK_BYTES {
@@ -159,11 +159,11 @@ pub fn write_list<O: Sink>(
     tokens: &[Token],
     out: &mut O,
 ) -> Result<(), ListFault>
-    ensures whole { OnOk result (Appends (O.taken out.old) (O.taken out.new) (listed_tokens names.now lines.now tokens.now)) }
-    ensures failed { result ≡ Err ListFault.Failed → Fails (O.taken out.old) (O.taken out.new) (O.room out.old) (O.faults out.old) (O.faults out.new) (listed_tokens names.now lines.now tokens.now) }
-    ensures cut { result ≡ Err ListFault.NoMemory → AppendsFront (O.taken out.old) (O.taken out.new) (listed_tokens names.now lines.now tokens.now) }
-    ensures later { O.faults out.old ≤ O.faults out.new }
-    ensures room { O.room out.new ≡ O.room out.old }
+    ensures whole { OnOk result (Appends ((O.seen out.old).taken) ((O.seen out.new).taken) (listed_tokens names.now lines.now tokens.now)) }
+    ensures failed { result ≡ Err ListFault.Failed → Fails ((O.seen out.old).taken) ((O.seen out.new).taken) ((O.seen out.old).room) ((O.seen out.old).faults) ((O.seen out.new).faults) (listed_tokens names.now lines.now tokens.now) }
+    ensures cut { result ≡ Err ListFault.NoMemory → AppendsFront ((O.seen out.old).taken) ((O.seen out.new).taken) (listed_tokens names.now lines.now tokens.now) }
+    ensures later { (O.seen out.old).faults ≤ (O.seen out.new).faults }
+    ensures room { (O.seen out.new).room ≡ (O.seen out.old).room }
 {
     let mut block = Vec::new(alloc);
     for token in tokens {

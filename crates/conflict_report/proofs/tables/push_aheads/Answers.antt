@@ -1,5 +1,5 @@
 use Rattle.std.proofs.Common.{sym, ap, ◌∙◌, ◌++◌, [], slice_get, unwrap_or}
-use Rattle.lr_base.specs.TokenSet.{has_token}
+use Rattle.grammar_data.specs.TokenSet.{has_token}
 use Rattle.conflict_report.specs.ItemTexts.{behind_space, token_text}
 use Rattle.conflict_report.proofs.RowLemmas.{next_word, same_words}
 use Rattle.conflict_report.proofs.tables.push_aheads.Goals as goal

@@ -1,6 +1,6 @@
 use Rattle.std.proofs.Common.{◌≡◌, ◌↔◌, ℕ, IsTrue, MatchBool, get_or, set, [], sym, ap, subst, ◌∙◌}
 use Rattle.std.proofs.lemmas.List.{get_or_read}
-use Rattle.lr_base.specs.TokenSet.{has_token}
+use Rattle.grammar_data.specs.TokenSet.{has_token}
 use Rattle.first_sets.specs.declared.opening.Opening.{Opening}
 use Rattle.first_sets.specs.Openings.{Begins, IsFilled, IsFilledBy, set_at}
 use Rattle.first_sets.proofs.FillLemmas.{fill_result}

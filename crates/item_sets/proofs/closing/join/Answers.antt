@@ -1,6 +1,6 @@
 use Rattle.std.proofs.Common.{◌≡◌, ◌||◌, [], get_or, set, true, false, ℕ, ap, sym, subst, ◌∙◌}
 use Rattle.std.proofs.lemmas.List.{get_or_default}
-use Rattle.lr_base.specs.TokenSet.{has_token}
+use Rattle.grammar_data.specs.TokenSet.{has_token}
 use Rattle.item_sets.specs.Closing.{IsJoined}
 use Rattle.item_sets.proofs.ClosingLemmas.{joined_grew}
 use Rattle.item_sets.proofs.closing.join.Goals as goal

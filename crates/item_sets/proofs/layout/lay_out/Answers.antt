@@ -1,6 +1,6 @@
 use Rattle.std.proofs.Common.{◌≡◌, suc, ◌+◌, ◌<◌, ◌++◌, [], length, get_or, sym, ap, subst, ◌∙◌, arith}
 use Rattle.std.proofs.lemmas.List.{get_or_default, take_rest}
-use Rattle.lr_base.specs.TokenSet.{IsTokenSet}
+use Rattle.grammar_data.specs.TokenSet.{IsTokenSet}
 use Rattle.std.proofs.lemmas.List.Elements.{All-get_or}
 use Rattle.item_sets.specs.Layout.{IsLaid}
 use Rattle.item_sets.proofs.LayoutLemmas.{rule_with_left, laid_front, laid_moved, laid_end}

@@ -1,5 +1,5 @@
 use Rattle.std.proofs.Common.{drop}
-use Rattle.lr_base.specs.TokenSet.{IsTokenSet}
+use Rattle.grammar_data.specs.TokenSet.{IsTokenSet}
 use Rattle.item_sets.proofs.SpotLemmas.{IsWalkedTo}
 use Rattle.item_sets.proofs.spot.rest.Given as goal
 

@@ -15,9 +15,9 @@ Appends-next a b c bytes at count before now =
 pub loop-at-preserved : goal.loop-at-preserved
 loop-at-preserved g c = record {
   within = search rules;
-  appended = Appends-next _ _ _ c.args.bytes.now c.loop-at.at c.in-Ok.count c.loop-at.invariant.appended c.in-Ok.ensures.bytes;
-  later = search rules;
-  room = search rules;
+  appended = Appends-next _ _ _ c.args.bytes.now c.loop-at.at c.in-Ok.count c.loop-at.invariant.appended c.in-Ok.ensures.writes.bytes;
+  kept = search rules;
+  same = search rules;
   unmoved = search rules;
   written = search rules;
 }

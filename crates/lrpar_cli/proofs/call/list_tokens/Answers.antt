@@ -12,7 +12,7 @@ returns-in-Err-clause-ending g c words form =
     (λ e. c.in-Err.ensures.rose (ap Err e))
     (λ e. c.in-Err.ensures.unserved (ap Err e))
     (Appends-nil _)
-    (λ e. nothing_grown g.E.Sink.taken _ _ (c.say_stop.ensures.unsaid e))
+    (λ e. nothing_grown (λ x. (g.E.Sink.seen x).taken) _ _ (c.say_stop.ensures.unsaid e))
     c.say_stop.ensures.said
 
 pub returns-in-Err-read_text-clause-ending : goal.returns-in-Err-read_text-clause-ending
@@ -24,7 +24,7 @@ returns-in-Err-read_text-clause-ending g c words form =
     (λ e. rose_before _ _ _ c.in-Ok.ensures.later (c.in-Err-read_text.ensures.rose (ap Err e)))
     (λ e. rw c.in-Ok.ensures.served at (c.in-Err-read_text.ensures.unserved (ap Err e)))
     (Appends-nil _)
-    (λ e. nothing_grown g.E.Sink.taken _ _ (c.say_stop-in-Err-read_text.ensures.unsaid e))
+    (λ e. nothing_grown (λ x. (g.E.Sink.seen x).taken) _ _ (c.say_stop-in-Err-read_text.ensures.unsaid e))
     c.say_stop-in-Err-read_text.ensures.said
 
 pub returns-clause-ending : goal.returns-clause-ending

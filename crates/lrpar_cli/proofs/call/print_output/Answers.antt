@@ -11,7 +11,7 @@ returns-in-Err-clause-ending g c words form =
     (λ e. c.in-Err.ensures.rose (ap Err e))
     (λ e. c.in-Err.ensures.unserved (ap Err e))
     (Appends-nil _)
-    (λ e. nothing_grown g.E.Sink.taken _ _ (c.say_stop.ensures.unsaid e))
+    (λ e. nothing_grown (λ x. (g.E.Sink.seen x).taken) _ _ (c.say_stop.ensures.unsaid e))
     c.say_stop.ensures.said
 
 pub returns-in-Err-clause-words : goal.returns-in-Err-clause-words
@@ -25,7 +25,7 @@ returns-in-Ok-build_sheet-clause-ending g c words form =
 pub returns-clause-ending : goal.returns-clause-ending
 returns-clause-ending g c words form =
     let read = c.in-Ok.ensures.accepted in
-    ending_at_grammar _ _ words _ _ _ _ _ form read.0 c.in-Ok.accepted.sheet read.1 read.2 c.in-Err-build_sheet.stop c.say_stop-in-Err-build_sheet.result c.in-Err-build_sheet.ensures.refused (Appends-nil _) (λ e. nothing_grown g.E.Sink.taken _ _ (c.say_stop-in-Err-build_sheet.ensures.unsaid e)) c.say_stop-in-Err-build_sheet.ensures.said
+    ending_at_grammar _ _ words _ _ _ _ _ form read.0 c.in-Ok.accepted.sheet read.1 read.2 c.in-Err-build_sheet.stop c.say_stop-in-Err-build_sheet.result c.in-Err-build_sheet.ensures.refused (Appends-nil _) (λ e. nothing_grown (λ x. (g.E.Sink.seen x).taken) _ _ (c.say_stop-in-Err-build_sheet.ensures.unsaid e)) c.say_stop-in-Err-build_sheet.ensures.said
 
 pub returns-clause-words : goal.returns-clause-words
 returns-clause-words g c e = no_words_stop _ _ _ _ _ c.in-Err-build_sheet.stop c.say_stop-in-Err-build_sheet.result c.say_stop-in-Err-build_sheet.ensures.said e

@@ -7,4 +7,4 @@ pub returns-in-Ok-clause-spoken : goal.returns-in-Ok-clause-spoken
 returns-in-Ok-clause-spoken g c = spoken c.in-Ok.ensures.whole
 
 pub returns-in-Err-clause-spoken : goal.returns-in-Err-clause-spoken
-returns-in-Err-clause-spoken g c = unspoken (record { part = c.in-Err.ensures.part; rose = c.in-Err.ensures.cause.failed; full = rw c.in-Err.ensures.room at (no_room _ _ _ _ (c.in-Err.ensures.written (omega (arith, c.in-Err.ensures.part.short))) c.in-Err.ensures.cause.failed) })
+returns-in-Err-clause-spoken g c = unspoken (record { part = c.in-Err.ensures.part; rose = c.in-Err.ensures.cause.failed; full = rw c.in-Err.ensures.same.room at (no_room _ _ (c.in-Err.ensures.written (omega (arith, c.in-Err.ensures.part.short))) c.in-Err.ensures.cause.failed) })

@@ -17,4 +17,4 @@ pub returns-clause-writing : goal.returns-clause-writing
 returns-clause-writing g c =
     let text = c.deref.ensures.value ∙ c.in-Ok.ensures in
     let e = rw text at c.in-Err-write_all.ensures in
-    writing_failed (record { part = e.part; rose = e.cause.failed; full = rw e.room at (no_room _ _ _ _ (e.written (omega (arith, e.part.short))) e.cause.failed) }) c.say.ensures.spoken
+    writing_failed (record { part = e.part; rose = e.cause.failed; full = rw e.same.room at (no_room _ _ (e.written (omega (arith, e.part.short))) e.cause.failed) }) c.say.ensures.spoken

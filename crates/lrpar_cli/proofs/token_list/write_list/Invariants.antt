@@ -6,7 +6,7 @@ use Rattle.lrpar_cli.proofs.token_list.write_list.Given as goal
 
 abbrev pub invariant-loop-token : goal.invariant-loop-token
 invariant-loop-token g l = record {
-  passed : Passes (g.O.Sink.taken l.fn.out) (g.O.Sink.taken l.out) [] l.block.items (flat_map (token_line l.names l.lines) (take l.token-index l.tokens));
-  later : g.O.Sink.faults l.fn.out ≤ g.O.Sink.faults l.out;
-  room : g.O.Sink.room l.out ≡ g.O.Sink.room l.fn.out;
+  passed : Passes (g.O.Sink.seen l.fn.out).taken (g.O.Sink.seen l.out).taken [] l.block.items (flat_map (token_line l.names l.lines) (take l.token-index l.tokens));
+  later : (g.O.Sink.seen l.fn.out).faults ≤ (g.O.Sink.seen l.out).faults;
+  room : (g.O.Sink.seen l.out).room ≡ (g.O.Sink.seen l.fn.out).room;
 }

@@ -1,5 +1,5 @@
 use Rattle.std.proofs.Common.{◌<◌, arith}
-use Rattle.lr_base.proofs.TokenSetLemmas.{insert_members, IsTokenSet-set, with_token-lt}
+use Rattle.grammar_data.proofs.TokenSetLemmas.{insert_members, IsTokenSet-set, with_token-lt}
 use Rattle.lr_base.proofs.token_set.TokenSet.insert.Goals as goal
 
 pub invariant_of-self : goal.invariant_of-self

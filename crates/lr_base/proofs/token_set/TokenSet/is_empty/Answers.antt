@@ -1,8 +1,8 @@
 use Rattle.std.proofs.Common.{nat_eq, sym, ap, ◌∙◌}
 use Rattle.std.specs.Cmp.Lexicographic.{same_text}
 use lib.Pointwise.{pointwise}
-use Rattle.lr_base.proofs.TokenSetLemmas.{equal_from_members, no_token, no_words, IsTokenSet-no_words}
-use Rattle.lr_base.specs.TokenSet.{has_token}
+use Rattle.grammar_data.proofs.TokenSetLemmas.{equal_from_members, no_token, no_words, IsTokenSet-no_words}
+use Rattle.grammar_data.specs.TokenSet.{has_token}
 use Rattle.lr_base.proofs.token_set.TokenSet.is_empty.Goals as goal
 
 pub returns : goal.returns

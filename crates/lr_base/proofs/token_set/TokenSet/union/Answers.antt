@@ -1,4 +1,4 @@
-use Rattle.lr_base.proofs.TokenSetLemmas.{union_grew, union_members, IsTokenSet-joined}
+use Rattle.grammar_data.proofs.TokenSetLemmas.{union_grew, union_members, IsTokenSet-joined}
 use Rattle.lr_base.proofs.token_set.TokenSet.union.Goals as goal
 
 pub invariant_of-self : goal.invariant_of-self
