@@ -91,3 +91,14 @@ pub record AppendsPart (before now : Option (List ℕ)) (text : List ℕ) : Type
   pub count : ℕ
   pub short : count < length text
   pub grown : Appends before now (take count text)
+
+-- the sink took the whole text, and its count stands where it stood
+pub record Takes (before after : SinkSeen) (text : List ℕ) : Type 0 where
+  pub grown : Appends before.taken after.taken text
+  pub kept : after.faults ≡ before.faults
+
+-- the sink failed within the text: it took a part of it, its count rose, and no sure room is left in it
+pub record Fails (before after : SinkSeen) (text : List ℕ) : Type 0 where
+  pub part : AppendsPart before.taken after.taken text
+  pub rose : Rose before.faults after.faults
+  pub full : IfSome after.taken (λ taken. after.room ≤ length taken)

@@ -1,16 +1,14 @@
 ghost use Rattle.std.specs.Prelude.{◌≡◌, ℕ, ◌+◌, ◌<◌, length, [], IfSome, IsOk, OnOk, OnErr};
-ghost use Rattle.std.specs.Io.KnownBytes.{Appends};
-ghost use Rattle.lr_base.specs.Outside.{AppendsPart, HasCause, HasSureRoom, IsSameSink};
+ghost use Rattle.lr_base.specs.Outside.{Fails, HasSureRoom, IsSameSink, Takes};
 
 use crate::errors::Failed;
 use crate::sink::Sink;
 
 /// Writes all the bytes, in as many calls as the sink wants; of an empty piece it makes none.
 pub fn write_all<O: Sink>(sink: &mut O, bytes: &[u8]) -> Result<(), Failed>
-    ensures whole { OnOk result (Appends (O.seen sink.old).taken (O.seen sink.new).taken bytes.now) }
-    ensures part { OnErr result (AppendsPart (O.seen sink.old).taken (O.seen sink.new).taken bytes.now) }
+    ensures whole { OnOk result (Takes (O.seen sink.old) (O.seen sink.new) bytes.now) }
+    ensures failed { OnErr result (Fails (O.seen sink.old) (O.seen sink.new) bytes.now) }
     ensures empty { bytes.now ≡ [] → (result ≡ Ok tt) × (sink.new ≡ sink.old) }
-    ensures cause { HasCause (O.seen sink.old).faults (O.seen sink.new).faults result }
     ensures same { IsSameSink (O.seen sink.old) (O.seen sink.new) }
 
     // The sure room holds after a write, and where none was made it holds as before.

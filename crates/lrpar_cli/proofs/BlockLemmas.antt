@@ -7,7 +7,7 @@ use Rattle.std.proofs.lemmas.Bool.{cases_lt}
 use Rattle.std.proofs.lemmas.List.{take-append-drop, take_more, take-append-le, take_all}
 use Rattle.std.proofs.Math.Seq.{take-append-add, drop-cons}
 use Rattle.std.proofs.lemmas.List.Concat.{flat_map-append}
-use Rattle.lr_base.specs.Outside.{Rose, AppendsPart, HasSureRoom, SinkSeen}
+use Rattle.lr_base.specs.Outside.{Rose, AppendsPart}
 use Rattle.lrpar_cli.specs.Blocks.{Passes, AppendsFront}
 use Rattle.lrpar_cli.specs.Endings.{Fails}
 
@@ -71,14 +71,6 @@ front_behind a b y l more all p e = record {
   joined = e ∙ ap (λ k. k ++ more) p.joined ∙ append_assoc p.taken y more;
   grown = p.grown;
 }
-
-full : (after : Option (List ℕ)) (room f g : ℕ) → IfSome after (λ bytes. length bytes < room → g ≡ 0) → Rose f g → IfSome after (λ taken. room ≤ length taken)
-full None room f g sure rose = tt
-full (Some taken) room f g sure rose = elim (cases_lt (length taken) room) [ inl few ↦ absurd (omega (arith, sure few, rose)) | inr enough ↦ enough ]
-
--- a sink that failed has no sure room left
-pub no_room : (after : SinkSeen) (f : ℕ) → HasSureRoom after → Rose f after.faults → IfSome after.taken (λ taken. after.room ≤ length taken)
-no_room after f sure rose = full after.taken after.room f after.faults sure rose
 
 -- all lines, and then the ending
 pub all_lines : {X : Type 0} (f : X → List ℕ) (xs : List X) (i : ℕ) (ending : List ℕ) → length xs ≤ i → flat_map f xs ++ ending ≡ flat_map f (take i xs) ++ (ending ++ [])
