@@ -8,7 +8,7 @@ use Rattle.outline_data.specs.declared.outline.Declaration.{Declaration}
 use Rattle.outline_data.specs.declared.outline.Declaration.TheVariants.{Literal, Matched, Skip, Start}
 use Rattle.outline_theory.specs.Numbering.{AreDecls}
 use Rattle.sheet_data.specs.declared.parts.Part.{Part}
-pub use Rattle.outline_numbers.specs.Numbered.{AreShort}
+pub use Rattle.numbering_theory.specs.KeptSheets.{AreShort}
 use Rattle.sheet_reader.specs.declared.parts.RuleTexts.{RuleTexts}
 
 -- the text of a pattern: that it spells none is refuted, and none that it spells has the empty string

@@ -5,7 +5,7 @@ use Rattle.sheet_data.specs.declared.parts.Decl.{Decl}
 use Rattle.sheet_data.specs.declared.parts.Decl.TheVariants.{Literal, Matched, Skip}
 use Rattle.sheet_theory.specs.Names.{declared_names}
 use Rattle.outline_theory.specs.Limits.{skips_in, positions_in}
-pub use Rattle.outline_numbers.specs.Numbered.{IsLiteralText, IsOrdinaryDecl}
+pub use Rattle.numbering_theory.specs.KeptSheets.{IsLiteralText, IsOrdinaryDecl}
 
 -- the name that a declaration gives to its token, where it declares one
 abbrev pub name_in : Decl → List (List ℕ)

@@ -42,7 +42,8 @@ impl Sheet {
     ghost use Rattle.sheet_theory.specs.Names.{declared_names, token_names};
     ghost use Rattle.sheet_theory.specs.ScanOrder.{Ranked, scan_order};
     ghost use Rattle.outline_theory.specs.Numbering.{AreDecls, IsSheetOf};
-    ghost use Rattle.outline_numbers.specs.Numbered.{IsNumbered, IsOrdinary};
+    ghost use Rattle.outline_numbers.specs.Numbered.{IsNumbered};
+    ghost use Rattle.numbering_theory.specs.KeptSheets.{IsOrdinary};
     ghost use Rattle.sheet_reader.specs.Ranking.{IsScannable, token_count};
 
     /// The sheet of an outline with its declarations and its numbers.
