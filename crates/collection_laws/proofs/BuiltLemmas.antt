@@ -1,5 +1,5 @@
 -- It is refuted that a grammar has no fault and yet no collection and tables.
-use Rattle.grammar_checks.specs.Building.{most_states}
+use Rattle.table_data.specs.declared.limits.TheConstants.{MOST_STATES}
 use Rattle.collection_laws.specs.Laws.{SomeBuiltLaw, SomeGrammarLaw}
 use Rattle.collection_laws.proofs.FaultLemmas.{some_fault}
 use Rattle.collection_laws.proofs.CollectionLemmas.{some_collection}
@@ -7,7 +7,7 @@ use Rattle.collection_laws.proofs.TablesLemmas.{some_tables}
 
 pub some_built : SomeBuiltLaw
 some_built g range few buildable none =
-    some_collection g range few most_states buildable.small.few
+    some_collection g range few MOST_STATES buildable.small.few
     (λ c collection. some_tables g range c collection buildable.free
     (λ t tables. none c t (record { collection = collection; tables = tables })))
 

@@ -1,65 +1,23 @@
 -- It isn't refuted that a grammar with few states has its collection: the entries of each state, and the steps in rows.
-use Rattle.std.proofs.Common.{◌≡◌, ◌≢◌, ℕ, ◌+◌, ◌*◌, ◌<◌, ◌↔◌, ⊎_elim, All, IsTrue, List, [], ◌∷◌, ◌++◌, length, get_or, slice_get, Option, Some, None, refl, sym, ap, subst, ◌∙◌, arith}
-use Rattle.std.proofs.lemmas.List.Elements.{All-head, All-from_get_or}
-use Rattle.std.proofs.lemmas.Option.{slice_get-get_or, same_Some}
+use Rattle.std.proofs.Common.{◌≡◌, ℕ, ◌+◌, ◌*◌, ◌<◌, ◌↔◌, ⊎_elim, IsTrue, List, [], ◌∷◌, ◌++◌, length, get_or, slice_get, Option, Some, None, refl, sym, ap, subst, ◌∙◌, arith}
+use Rattle.std.proofs.lemmas.Option.{slice_get-get_or, slice_get_within, same_Some}
 use Rattle.grammar_data.specs.declared.rule.Sym.{Sym}
 use Rattle.grammar_data.specs.Grammar.{Grammar}
 use Rattle.grammar_theory.specs.Rules.{IsInRange}
-use Rattle.grammar_theory.proofs.Lists.{Pushed, empty, pushed, all_pushed}
 use Rattle.item_theory.specs.Items.{Item, IsValid}
-use Rattle.item_theory.specs.Chains.{Moves, moves, Opens, opens, Closure, kept, opened, IsFirstItem, IsMoved}
 use Rattle.item_theory.specs.LeadingWords.{AreStates}
 use Rattle.item_theory.specs.Collections.{IsStateOf}
-use Rattle.item_theory.proofs.ChainLemmas.{valid_into}
-use Rattle.item_theory.proofs.ClosureLemmas.{closure_within, closure_weaker, valid_in_first, valid_in_moved, moved_valid}
-use Rattle.item_sets.specs.declared.entry.Entry.{Entry}
-use Rattle.item_sets.specs.Entries.{entries_have, IsEntry, AreEntries}
-use Rattle.item_sets.specs.Searching.{kernel_of, IsStateSet, symbol_at, IsStepOf, IsSearchedAll}
-use Rattle.item_sets.specs.Tables.{Tables, IsCollectionOf}
-use Rattle.item_sets.proofs.SameEntries.{item_in, kernel_has, has_kernel, kernel_entries}
-use Rattle.item_sets.proofs.StepLemmas.{row_once, collection_of}
+use Rattle.collection_data.specs.declared.entry.Entry.{Entry}
+use Rattle.collection_data.specs.Entries.{entries_have, AreEntries}
+use Rattle.collection_data.specs.Rows.{symbol_at, IsStepOf, AreAllRowsOf}
+use Rattle.collection_data.specs.Collection.{CollectionParts, IsCollectionOf}
+use Rattle.collection_data.proofs.RowLemmas.{row_once}
+use Rattle.collection_data.proofs.MadeCollection.{collection_of}
 use Rattle.state_laws.proofs.RefutedLemmas.{NotRefuted, decided}
 use Rattle.state_laws.proofs.FindingLemmas.{states_found}
 use Rattle.collection_laws.specs.Laws.{SomeCollectionLaw}
 use Rattle.collection_laws.proofs.ListLemmas.{HasList, list_found}
 use Rattle.collection_laws.proofs.EntryLemmas.{entries_found}
-
--- ---- the entries of a state are the closure of their kernel
-
-first_dot : {g : Grammar} {i : Item} → Closure g (IsFirstItem g) i → i.dot ≡ 0
-first_dot (kept e) = ap (λ (i : Item). i.dot) e
-first_dot (opened c (opens n m before after right dotted front follows)) = front.dot
-
-moved_dot : {g : Grammar} {x : Sym} {i j : Item} → Moves g x i j → 0 < j.dot
-moved_dot {i = i} {j = j} (moves n before after dotted e) = let same : j.dot ≡ i.dot + 1 = ap (λ (k : Item). k.dot) e in omega arith
-
-no_entries : (g : Grammar) (es : List Entry) → AreEntries g es → ((i : Item) → IsTrue (entries_have es i) → ⊥) → es ≡ []
-no_entries g [] are none = refl
-no_entries g (e ∷ es) are none = absurd (none _ (item_in g e es (All-head (IsEntry g) e es are.each)))
-
-module _ (g : Grammar) (range : IsInRange g) (xs : List Sym) (es : List Entry) (are : AreEntries g es) (have : (i : Item) → IsTrue (entries_have es i) ↔ IsValid g xs i) where
-  opened_too : (i j : Item) → IsTrue (entries_have es i) → Opens g i j → IsTrue (entries_have es j)
-  opened_too i j h o = (have j).1 (valid_into g ((have i).0 h) o)
-
-  moved_in : (ys : List Sym) (y : Sym) → xs ≡ ys ++ y ∷ [] → (j : Item) → IsMoved g (IsValid g ys) y j → IsTrue (entries_have (kernel_of es) j)
-  moved_in ys y e j moved = has_kernel es j (moved_dot moved.2) ((have j).1 (subst (λ l. IsValid g l j) (sym e) (moved_valid g range (kept moved))))
-
-  closed_by : Pushed xs → kernel_of es ≢ [] → (i : Item) → IsTrue (entries_have es i) ↔ Closure g (λ j. IsTrue (entries_have (kernel_of es) j)) i
-  closed_by (empty e) some i = absurd (some (no_entries g (kernel_of es) (kernel_entries g es are) none))
-    where
-      none : (j : Item) → IsTrue (entries_have (kernel_of es) j) → ⊥
-      none j h =
-          let parts = kernel_has es j h in
-          let less = parts.1 in
-          let zero_dot : j.dot ≡ 0 = first_dot (valid_in_first g range (subst (λ l. IsValid g l j) e ((have j).0 parts.0))) in
-          omega arith
-  closed_by (pushed ys y e) some i = (
-    λ h. closure_weaker (moved_in ys y e) (valid_in_moved g range (subst (λ l. IsValid g l i) e ((have i).0 h))),
-    λ closure. closure_within {set = λ j. IsTrue (entries_have es j)} (λ j h. (kernel_has es j h).0) opened_too closure,
-  )
-
-  state_set : IsStateSet g es
-  state_set = record { are = are; closed = closed_by (all_pushed xs) }
 
 -- ---- the collection
 
@@ -115,24 +73,20 @@ module _ (g : Grammar) (range : IsInRange g) (few : g.tokens < 256) (words : Lis
       d)
 
   abbrev HasCollection : Type 0
-  HasCollection = (c : Tables) × IsCollectionOf g c
+  HasCollection = (c : CollectionParts) × IsCollectionOf g c
 
   module _ (sets : HasList IsStateAt (length words)) (steps : HasList IsStepAt (length words * width)) where
     word_at : (q : ℕ) → q < length sets.0 → slice_get words q ≡ Some (get_or words q [])
     word_at q less = slice_get-get_or words q [] (let count = sets.1 in omega arith)
 
-    set_at : (q : ℕ) → q < length sets.0 → IsStateAt q (get_or sets.0 q [])
-    set_at q less = sets.2 q (get_or sets.0 q []) (slice_get-get_or sets.0 q [] less)
+    are_entries : (q : ℕ) (es : List Entry) → slice_get sets.0 q ≡ Some es → AreEntries g es
+    are_entries q es at = (sets.2 q es at).are (get_or words q []) (word_at q (slice_get_within sets.0 q es at))
 
-    state_sets : All (IsStateSet g) sets.0
-    state_sets = All-from_get_or (IsStateSet g) sets.0 [] (λ q less. state_set g range (get_or words q []) (get_or sets.0 q [])
-        ((set_at q less).are (get_or words q []) (word_at q less)) ((set_at q less).have (get_or words q []) (word_at q less)))
-
-    searched : IsSearchedAll g sets.0 steps.0
+    searched : AreAllRowsOf g sets.0 steps.0
     searched = record {
       words = words;
       are_states = states;
-      tables = record {
+      rows = record {
         count = sym sets.1;
         items = λ q xs es at there. (sets.2 q es there).have xs at;
         along = λ q column xs o small there at. steps.2 (q * width + column) o there q column xs small refl at;
@@ -143,7 +97,7 @@ module _ (g : Grammar) (range : IsInRange g) (few : g.tokens < 256) (words : Lis
     made : HasCollection
     made = (
       record { tokens = g.tokens; names = g.names; states = sets.0; steps = steps.0 },
-      collection_of g range (record { tokens = g.tokens; names = g.names; states = sets.0; steps = steps.0 }) refl refl searched state_sets,
+      collection_of g range (record { tokens = g.tokens; names = g.names; states = sets.0; steps = steps.0 }) refl refl searched are_entries,
     )
 
   pub collection_found : NotRefuted HasCollection

@@ -12,9 +12,9 @@ use Rattle.grammar_theory.specs.Rules.{IsInRange}
 use Rattle.item_theory.specs.Items.{Item, Dotted, IsValid, valid, all_rules}
 use Rattle.item_theory.proofs.ItemLemmas.{item_same}
 use Rattle.item_theory.proofs.ItemLaws.{item_range_law}
-use Rattle.item_sets.specs.declared.entry.Entry.{Entry}
-use Rattle.item_sets.specs.Entries.{entry_has, entries_have, IsEntryBefore, IsEntry, AreEntries}
-use Rattle.item_sets.proofs.ClosureExact.{entry_parts, entry_from, have_pushed}
+use Rattle.collection_data.specs.declared.entry.Entry.{Entry}
+use Rattle.collection_data.specs.Entries.{entry_has, entries_have, IsEntryBefore, IsEntry, AreEntries}
+use Rattle.collection_data.proofs.EntryLemmas.{entry_parts, entry_from, have_pushed}
 use Rattle.state_laws.proofs.RefutedLemmas.{NotRefuted, decided}
 use Rattle.collection_laws.proofs.SetLemmas.{IsSetBelow, set_found}
 

@@ -11,8 +11,8 @@ use Rattle.item_theory.specs.Items.{Item, Deed, Does, shifts, reduces, IsValid, 
 use Rattle.item_theory.specs.Chains.{moves}
 use Rattle.item_theory.specs.Collections.{IsCollection}
 use Rattle.item_theory.proofs.StateLemmas.{viable_of_step}
-use Rattle.item_sets.specs.Tables.{state_count, has_item, step_in}
-use Rattle.item_sets.proofs.StepLemmas.{row_once}
+use Rattle.collection_data.specs.Collection.{state_count, has_item, step_in}
+use Rattle.collection_data.proofs.RowLemmas.{row_once}
 use Rattle.table_data.specs.declared.act.Act.{Act}
 use Rattle.table_data.specs.declared.act.Act.TheVariants.{Shift, Reduce, Accept, Error}
 use Rattle.table_data.specs.Tables.{Tables, act_in, goto_in}

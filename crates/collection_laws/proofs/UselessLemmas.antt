@@ -3,10 +3,10 @@ use Rattle.std.proofs.Common.{◌≡◌, ◌≢◌, ℕ, zero, suc, ◌<◌, ◌
 use Rattle.std.proofs.lemmas.Bool.{cases_lt}
 use Rattle.grammar_data.specs.Grammar.{Grammar}
 use Rattle.grammar_theory.specs.UsefulNames.{IsProductive, IsReachable}
-use Rattle.first_sets.specs.declared.fault.UselessFault.{UselessFault}
-use Rattle.first_sets.specs.declared.fault.UselessFault.TheVariants.{Unproductive, Unreachable, EmptyTooLarge, NoMemory}
+use Rattle.grammar_faults.specs.declared.fault.GrammarFault.{GrammarFault}
+use Rattle.grammar_faults.specs.declared.fault.GrammarFault.TheVariants.{Unproductive, Unreachable, EmptyTooLarge, NoMemory}
+use Rattle.grammar_faults.specs.Building.{IsFaultOf}
 use Rattle.grammar_theory.specs.UselessNames.{IsEmptyTooLarge, IsUseful}
-use Rattle.first_sets.specs.NameFaults.{IsDue}
 use Rattle.state_laws.proofs.RefutedLemmas.{NotRefuted, decided}
 
 -- a fact of all numbers below the bound
@@ -32,15 +32,15 @@ all_or_first P (suc bound) refuted =
     (λ first. refuted (inr (first_more P bound first)))
     found)
 
-pub some_useless : (g : Grammar) → (IsUseful g → ⊥) → ((fault : UselessFault) → IsDue g fault → fault ≢ NoMemory → ⊥) → ⊥
-some_useless g not_useful not_due =
+pub some_useless : (g : Grammar) → (IsUseful g → ⊥) → ((fault : GrammarFault) → fault ≢ NoMemory → ¬ (IsFaultOf g fault)) → ⊥
+some_useless g not_useful faultless =
     all_or_first (IsProductive g) g.names (λ productive. ⊎_elim
     (λ all_productive. all_or_first (IsReachable g) g.names (λ reachable. ⊎_elim
     (λ all_reachable. all_or_first (λ n. ¬ (IsEmptyTooLarge g n)) g.names (λ small. ⊎_elim
     (λ all_small. not_useful (record { productive = all_productive; reachable = all_reachable; small = all_small }))
-    (λ first. let (n, below, not, least) = first in not (λ large. not_due (EmptyTooLarge n) (record { productive = all_productive; reachable = all_reachable; name = below; large = large; least = least }) (λ e. absurd (cc))))
+    (λ first. let (n, below, not, least) = first in not (λ large. faultless (EmptyTooLarge n) (λ e. absurd (cc)) (record { productive = all_productive; reachable = all_reachable; name = below; large = large; least = least })))
     small))
-    (λ first. let (n, below, not, least) = first in not_due (Unreachable n) (record { productive = all_productive; name = below; unreachable = not; least = least }) (λ e. absurd (cc)))
+    (λ first. let (n, below, not, least) = first in faultless (Unreachable n) (λ e. absurd (cc)) (record { productive = all_productive; name = below; unreachable = not; least = least }))
     reachable))
-    (λ first. let (n, below, not, least) = first in not_due (Unproductive n) (record { name = below; unproductive = not; least = least }) (λ e. absurd (cc)))
+    (λ first. let (n, below, not, least) = first in faultless (Unproductive n) (λ e. absurd (cc)) (record { name = below; unproductive = not; least = least }))
     productive)

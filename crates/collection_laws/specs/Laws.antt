@@ -7,10 +7,10 @@ use Rattle.item_theory.specs.Items.{HasConflict}
 use Rattle.item_theory.specs.Collections.{HasMoreStates}
 use Rattle.table_data.specs.Tables.{Tables}
 use Rattle.table_theory.specs.Canonical.{AreCanonical}
-use Rattle.item_sets.specs.Tables.{Tables as StateTables, IsCollectionOf, has_item, state_count, step_in}
-use Rattle.grammar_checks.specs.declared.fault.GrammarFault.{GrammarFault}
-use Rattle.grammar_checks.specs.declared.fault.GrammarFault.TheVariants.{NoMemory}
-use Rattle.grammar_checks.specs.Building.{IsBuildable, AreBuiltOf, IsFaultOf}
+use Rattle.collection_data.specs.Collection.{CollectionParts, IsCollectionOf, has_item, state_count, step_in}
+use Rattle.grammar_faults.specs.declared.fault.GrammarFault.{GrammarFault}
+use Rattle.grammar_faults.specs.declared.fault.GrammarFault.TheVariants.{NoMemory}
+use Rattle.grammar_faults.specs.Building.{IsBuildable, AreBuiltOf, IsFaultOf}
 
 -- it is refuted that a grammar has no fault and isn't one that has tables
 abbrev pub SomeFaultLaw : Type 0
@@ -19,16 +19,16 @@ SomeFaultLaw = (g : Grammar) → IsInRange g → ((fault : GrammarFault) → fau
 -- where there are no more states than a limit, and each token and the end mark are below 256, it is refuted that there is
 -- no canonical collection
 abbrev pub SomeCollectionLaw : Type 0
-SomeCollectionLaw = (g : Grammar) → IsInRange g → g.tokens < 256 → (limit : ℕ) → ¬ (HasMoreStates g limit) → ((c : StateTables) → ¬ (IsCollectionOf g c)) → ⊥
+SomeCollectionLaw = (g : Grammar) → IsInRange g → g.tokens < 256 → (limit : ℕ) → ¬ (HasMoreStates g limit) → ((c : CollectionParts) → ¬ (IsCollectionOf g c)) → ⊥
 
 -- where there is no conflict, it is refuted that a collection has no canonical tables
 abbrev pub SomeTablesLaw : Type 0
-SomeTablesLaw = (g : Grammar) → IsInRange g → (c : StateTables) → IsCollectionOf g c → ¬ (HasConflict g) → ((t : Tables) → ¬ (AreCanonical g (state_count c) (has_item c) (step_in c) t)) → ⊥
+SomeTablesLaw = (g : Grammar) → IsInRange g → (c : CollectionParts) → IsCollectionOf g c → ¬ (HasConflict g) → ((t : Tables) → ¬ (AreCanonical g (state_count c) (has_item c) (step_in c) t)) → ⊥
 
 -- it is refuted that a grammar that has tables has no canonical collection with canonical tables
 abbrev pub SomeBuiltLaw : Type 0
-SomeBuiltLaw = (g : Grammar) → IsInRange g → g.tokens < 256 → IsBuildable g → ((c : StateTables) (t : Tables) → ¬ (AreBuiltOf g c t)) → ⊥
+SomeBuiltLaw = (g : Grammar) → IsInRange g → g.tokens < 256 → IsBuildable g → ((c : CollectionParts) (t : Tables) → ¬ (AreBuiltOf g c t)) → ⊥
 
 -- and that a grammar has neither a fault nor those
 abbrev pub SomeGrammarLaw : Type 0
-SomeGrammarLaw = (g : Grammar) → IsInRange g → g.tokens < 256 → ((fault : GrammarFault) → fault ≢ NoMemory → ¬ (IsFaultOf g fault)) → ((c : StateTables) (t : Tables) → IsBuildable g → ¬ (AreBuiltOf g c t)) → ⊥
+SomeGrammarLaw = (g : Grammar) → IsInRange g → g.tokens < 256 → ((fault : GrammarFault) → fault ≢ NoMemory → ¬ (IsFaultOf g fault)) → ((c : CollectionParts) (t : Tables) → IsBuildable g → ¬ (AreBuiltOf g c t)) → ⊥

@@ -2,12 +2,12 @@
 ghost use Rattle.std.specs.Prelude.{◌≡◌, ◌≤◌, ◌++◌, [], codes, decimal, length, slice_get, unwrap_or, All, IfOk, OnOk};
 ghost use Rattle.lr_base.specs.IsGrammar.{IsSymbolOf};
 ghost use Rattle.sheet_theory.specs.Names.{token_names};
-ghost use Rattle.conflict_report.specs.ItemTexts.{behind_space, token_text, dotted_side, dotted_rule, indented, item_text as text_of_item, conflict_text as text_of_conflict};
-ghost use Rattle.conflict_report.specs.Belonging.{IsDotted, IsItemIn, IsConflictIn};
+ghost use Rattle.report_theory.specs.ItemTexts.{behind_space, token_text, dotted_side, dotted_rule, indented, item_text as text_of_item, conflict_text as text_of_conflict};
+ghost use Rattle.report_theory.specs.Belonging.{IsDotted, IsItemIn, IsConflictIn};
 
 use crate::words::{push_number, push_symbols, push_word, token_word};
+use grammar_faults::{Conflict, Item};
 use lr_base::{NoMemory, RuleId, Sym};
-use lr_tables::{Conflict, Item};
 use sheet_data::Bytes;
 use sheet_reader::Sheet;
 use std::alloc::Global;

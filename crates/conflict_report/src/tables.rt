@@ -2,10 +2,10 @@
 ghost use Rattle.std.specs.Prelude.{◌≡◌, ◌<◌, ◌≤◌, ◌++◌, [], map, codes, slice_get, unwrap_or, All, IfOk, OnOk};
 ghost use Rattle.std.specs.List.{flat_map};
 ghost use Rattle.sheet_theory.specs.Names.{token_names};
-ghost use Rattle.item_sets.specs.Entries.{IsEntry};
-ghost use Rattle.conflict_report.specs.ItemTexts.{behind_space, token_text};
-ghost use Rattle.conflict_report.specs.TableTexts.{aheads_in, entry_line, entry_lines, act_line, act_lines, goto_line, goto_lines, state_text, states_line, tables_text as text_of_tables};
-ghost use Rattle.conflict_report.specs.Belonging.{BelongTo};
+ghost use Rattle.collection_data.specs.Entries.{IsEntry};
+ghost use Rattle.report_theory.specs.ItemTexts.{behind_space, token_text};
+ghost use Rattle.report_theory.specs.TableTexts.{aheads_in, entry_line, entry_lines, act_line, act_lines, goto_line, goto_lines, state_text, states_line, tables_text as text_of_tables};
+ghost use Rattle.report_theory.specs.Belonging.{BelongTo};
 
 use crate::items::push_rule;
 use crate::words::{push_last, push_word, token_word};
@@ -188,7 +188,7 @@ pub fn push_states_line(text: &mut Vec<u8>, tables: &Tables) -> Result<(), NoMem
 }
 
 /// Adds the lines of one state, where `names` are the printed names of the sheet's tokens, by number.
-#[tactic(auto, unfolding(crate::specs::TableTexts::state_text))]
+#[tactic(auto, unfolding(report_theory::specs::TableTexts::state_text))]
 pub fn push_state(
     text: &mut Vec<u8>,
     names: &[Bytes],

@@ -4,8 +4,8 @@ ghost use Rattle.std.specs.List.{flat_map};
 ghost use Rattle.lr_base.specs.IsGrammar.{IsSymbolOf};
 ghost use Rattle.sheet_theory.specs.Names.{token_names};
 ghost use Rattle.outline_theory.specs.Layout.{symbol_text};
-ghost use Rattle.conflict_report.specs.ItemTexts.{behind_space, symbols_text, token_text};
-ghost use Rattle.conflict_report.specs.TableTexts.{last_number};
+ghost use Rattle.report_theory.specs.ItemTexts.{behind_space, symbols_text, token_text};
+ghost use Rattle.report_theory.specs.TableTexts.{last_number};
 
 use itoa::Buffer;
 use lr_base::{NoMemory, Sym, TokenId};

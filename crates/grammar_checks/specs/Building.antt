@@ -1,60 +1,8 @@
--- What keeps a grammar from having tables, in its order; or its canonical collection and tables.
--- Source: Knuth, On the Translation of Languages from Left to Right, 1965; Aho and Ullman, The Theory of Parsing,
--- Translation, and Compiling, volume 1, section 5.2. The order of the faults is this project's own.
-use Rattle.std.specs.Prelude.{◌≡◌, ◌≢◌, ℕ}
+-- What `build_grammar` answers: the canonical collection and the canonical tables of a grammar that has no fault.
 use Rattle.grammar_data.specs.Grammar.{Grammar}
-use Rattle.item_theory.specs.Items.{HasConflict}
-use Rattle.item_theory.specs.Collections.{HasMoreStates}
-use Rattle.table_data.specs.Tables.{Tables}
-use Rattle.table_theory.specs.Canonical.{AreCanonical}
-use Rattle.table_theory.specs.Conflicts.{IsFirstConflict}
-use Rattle.first_sets.specs.declared.fault.UselessFault.TheVariants.{NoMemory as exhausted}
-use Rattle.grammar_theory.specs.UselessNames.{IsUseful}
-use Rattle.first_sets.specs.NameFaults.{IsDue}
-use Rattle.item_sets.specs.Tables.{Tables as StateTables, IsCollectionOf, has_item, state_count, step_in}
-use Rattle.lr_tables.specs.declared.conflict.Conflict.{Conflict as ShownConflict}
-use Rattle.grammar_checks.specs.declared.fault.GrammarFault.{GrammarFault}
-use Rattle.grammar_checks.specs.declared.fault.GrammarFault.TheVariants.{Useless, TooManyStates, Conflict, NoMemory}
+use Rattle.grammar_faults.specs.Building.{IsBuildable, AreBuiltOf}
 use Rattle.grammar_checks.specs.declared.building.Built.{Built}
-
--- the most states of a collection
-abbrev pub most_states : ℕ
-most_states = 10000
-
--- all names are useful, and the states are few enough
-pub record IsSmall (g : Grammar) : Type 0 where
-  pub useful : IsUseful g
-  pub few : ¬ (HasMoreStates g most_states)
-
--- and there is no conflict
-pub record IsBuildable (g : Grammar) : Type 0 where
-  pub small : IsSmall g
-  pub free : ¬ (HasConflict g)
-
--- the canonical collection and the canonical tables of the grammar
-pub record AreBuiltOf (g : Grammar) (c : StateTables) (t : Tables) : Type 0 where
-  pub collection : IsCollectionOf g c
-  pub tables : AreCanonical g (state_count c) (has_item c) (step_in c) t
 
 pub record IsBuilt (g : Grammar) (built : Built) : Type 0 where
   pub buildable : IsBuildable g
   pub parts : AreBuiltOf g built.collection built.tables
-
--- the conflict is the grammar's first
-abbrev pub IsShown : Grammar → ShownConflict → Type 0
-IsShown g c = IsFirstConflict g c.state c.token c.first c.second
-
--- the fault is the grammar's first; of want of memory nothing is said
-abbrev pub IsFaultOf : Grammar → GrammarFault → Type 0
-IsFaultOf g (Useless fault) = IsDue g fault × (fault ≢ exhausted)
-IsFaultOf g TooManyStates = IsUseful g × HasMoreStates g most_states
-IsFaultOf g (Conflict c) = IsSmall g × IsShown g c
-IsFaultOf g NoMemory = Unit {0}
-
--- a grammar has one first fault at most
-abbrev pub OneFaultLaw : Type 0
-OneFaultLaw = (g : Grammar) (one other : GrammarFault) → IsFaultOf g one → IsFaultOf g other → one ≢ NoMemory → other ≢ NoMemory → one ≡ other
-
--- and none where it has tables
-abbrev pub BuildableLaw : Type 0
-BuildableLaw = (g : Grammar) (fault : GrammarFault) → IsBuildable g → IsFaultOf g fault → fault ≡ NoMemory

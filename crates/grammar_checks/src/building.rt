@@ -1,12 +1,16 @@
 ghost use Rattle.std.specs.Prelude.{IfErr, IfOk};
+ghost use Rattle.grammar_data.specs.Grammar.{Grammar as GrammarParts};
 ghost use Rattle.first_sets.specs.NameFacts.{AreFirsts};
+ghost use Rattle.first_sets.specs.NameFaults.{IsDue};
 ghost use Rattle.grammar_theory.specs.UselessNames.{IsUseful};
-ghost use Rattle.item_sets.specs.Tables.{IsCollectionOf};
+ghost use Rattle.collection_data.specs.Collection.{IsCollectionOf};
 ghost use Rattle.item_theory.specs.Collections.{HasMoreStates};
-ghost use Rattle.grammar_checks.specs.Building.{IsBuilt, IsFaultOf};
+ghost use Rattle.table_data.specs.declared.limits.TheConstants.{MOST_STATES};
+ghost use Rattle.grammar_checks.specs.Building.{IsBuilt};
+ghost use Rattle.grammar_faults.specs.Building.{IsFaultOf};
 
-use crate::fault::GrammarFault;
 use first_sets::{Firsts, UselessFault, analyse};
+use grammar_faults::GrammarFault;
 use item_sets::{CollectFault, Collection, collect};
 use lr_base::Grammar;
 use lr_machine::Tables;
@@ -20,6 +24,18 @@ pub struct Built {
     pub tables: Tables,
 }
 
+/// A fault of names as one of the grammar.
+fn name_fault(fault: UselessFault) -> GrammarFault
+    ensures { (g : GrammarParts) → IsDue g fault → IsFaultOf g result }
+{
+    match fault {
+        UselessFault::Unproductive(name) => GrammarFault::Unproductive(name),
+        UselessFault::Unreachable(name) => GrammarFault::Unreachable(name),
+        UselessFault::EmptyTooLarge(name) => GrammarFault::EmptyTooLarge(name),
+        UselessFault::NoMemory => GrammarFault::NoMemory,
+    }
+}
+
 /// What is known of the names of a grammar, where all are useful.
 fn firsts_of(alloc: Global, grammar: &Grammar) -> Result<Firsts, GrammarFault>
     ensures useful { IfOk result (λ _. IsUseful grammar.now) }
@@ -28,8 +44,7 @@ fn firsts_of(alloc: Global, grammar: &Grammar) -> Result<Firsts, GrammarFault>
 {
     match analyse(alloc, grammar) {
         Ok(firsts) => Ok(firsts),
-        Err(UselessFault::NoMemory) => Err(GrammarFault::NoMemory),
-        Err(fault) => Err(GrammarFault::Useless(fault)),
+        Err(fault) => Err(name_fault(fault)),
     }
 }
 
@@ -42,7 +57,7 @@ fn collection_of(
     requires useful { IsUseful grammar.now }
     requires facts { AreFirsts grammar.now firsts.now }
     ensures collection { IfOk result (λ collection. IsCollectionOf grammar.now collection) }
-    ensures few { IfOk result (λ _. ¬ (HasMoreStates grammar.now 10000)) }
+    ensures few { IfOk result (λ _. ¬ (HasMoreStates grammar.now MOST_STATES)) }
     ensures fault { IfErr result (λ fault. IsFaultOf grammar.now fault) }
 {
     match collect(alloc, grammar, firsts) {

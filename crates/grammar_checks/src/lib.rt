@@ -3,9 +3,6 @@
 #![tactic(auto)]
 
 mod building;
-mod fault;
-mod laws;
 
 pub use building::{Built, build_grammar};
-pub use fault::GrammarFault;
-pub use laws::grammar_fault_laws;
+pub use grammar_faults::GrammarFault;

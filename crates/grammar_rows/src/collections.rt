@@ -1,7 +1,7 @@
 //! Rows of canonical collections: how many states there are, where their steps lead, and what is too large.
 
 ghost use Rattle.std.specs.Prelude.{◌≡◌, ◌<◌};
-ghost use Rattle.item_sets.specs.Tables.{state_count};
+ghost use Rattle.collection_data.specs.Collection.{state_count};
 
 use crate::names::{grammar_of, symbol_of};
 use first_sets::analyse;

@@ -1,11 +1,11 @@
 //! Rows of tables: what is printed of them, what states do, and which grammars have a conflict.
 
 ghost use Rattle.std.specs.Prelude.{IfSome};
-ghost use Rattle.grammar_checks.specs.Building.{AreBuiltOf, IsShown};
+ghost use Rattle.grammar_faults.specs.Building.{AreBuiltOf, IsShown};
 
 use crate::names::grammar_of;
 use conflict_report::{conflict_text, item_text, tables_text};
-use first_sets::{UselessFault, analyse};
+use first_sets::analyse;
 use grammar_checks::{Built, GrammarFault, build_grammar};
 use item_sets::collect;
 use lr_base::{Grammar, NameId, NoMemory, RuleId, StateId, TokenId};
@@ -161,7 +161,7 @@ fn a_useless_name_comes_before_a_conflict(rt: HostRuntime) -> Result<(), Fail> {
     let fault = build_grammar(rt.alloc(), &grammar).err();
     assert_eq!(rt;
         fault,
-        Some(GrammarFault::Useless(UselessFault::Unreachable(NameId(1))))
+        Some(GrammarFault::Unreachable(NameId(1)))
     );
     Ok(())
 }

@@ -1,12 +1,10 @@
 -- Lookaheads that grow, and what a spot carries to the name there.
-use Rattle.std.proofs.Common.{◌≡◌, ℕ, zero, suc, ◌+◌, ◌/◌, ◌%◌, ◌==◌, ◌<◌, ◌≤◌, ◌⊎◌, inl, inr, Bool, true, false, ◌||◌, IsTrue, List, [], ◌∷◌, ◌++◌, length, get_or, set, nat_lt, Some, All, Contains, refl, sym, ap, subst, ◌∙◌, arith}
-use Rattle.std.proofs.lemmas.Bool.{or_left, or_right, or_cases, false≢true, cases_eq, cases_lt, ltb-true}
-use Rattle.std.proofs.lemmas.List.{get_or-set_same, get_or-set_other, set-get_or, length-set, length_push, get_or_past}
+use Rattle.std.proofs.Common.{◌≡◌, ℕ, zero, suc, ◌+◌, ◌<◌, ◌≤◌, ◌⊎◌, inl, inr, Bool, true, false, ◌||◌, IsTrue, List, [], ◌∷◌, ◌++◌, length, get_or, set, nat_lt, Some, All, Contains, refl, sym, ap, subst, ◌∙◌, arith}
+use Rattle.std.proofs.lemmas.Bool.{or_left, or_right, or_cases, cases_eq, ltb-true}
+use Rattle.std.proofs.lemmas.List.{get_or-set_same, get_or-set_other, set-get_or, length-set, length_push}
 use Rattle.std.proofs.lemmas.List.Elements.{All-set, All-get_or, All-from_get_or, All-weaker, Contains-push, Contains-append_left, Contains-append_right, Contains-push_cases}
 use Rattle.std.proofs.lemmas.List.Sums.{sum_by-set}
 use Rattle.std.proofs.lemmas.Option.{slice_get-get_or, cond_some}
-use Rattle.std.proofs.lemmas.Nat.Bits.{bit_at-zero}
-use Rattle.std.specs.Int.{bit_at}
 use Rattle.grammar_data.specs.declared.rule.Sym.{Sym}
 use Rattle.grammar_data.specs.declared.rule.Sym.TheVariants.{Token, Name}
 use Rattle.grammar_data.specs.Grammar.{Grammar}
@@ -14,19 +12,11 @@ use Rattle.grammar_data.specs.TokenSet.{IsTokenSet, has_token}
 use Rattle.item_theory.specs.Items.{all_rules}
 use Rattle.item_sets.specs.declared.spot.Spot.{Spot}
 use Rattle.item_sets.specs.Spots.{IsSpotAt, AreSpots, IsOpening, IsTable}
-use Rattle.item_sets.specs.Tables.{column_of}
+use Rattle.collection_data.specs.Collection.{column_of}
+use Rattle.collection_data.proofs.TokenLemmas.{token_below}
 use Rattle.item_sets.specs.Closing.{ahead_in, carries, absent, lack, IsNameWithin, missing, IsGrown, IsRowOpened, IsJoined}
 
 -- ---- sets that grow
-
-pub past_words : (words : List ℕ) (a : ℕ) → length words ≡ 4 → 256 ≤ a → has_token words a ≡ false
-past_words words a four past = ap (λ x. bit_at x (a % 64) == 1) (get_or_past words (a / 64) 0 (omega arith)) ∙ ap (λ x. x == 1) (bit_at-zero (a % 64))
-
-pub token_below : (words : List ℕ) (a : ℕ) → IsTokenSet words → has_token words a ≡ true → a < 256
-token_below words a h has = elim (cases_lt a 256) [
-  | inl less ↦ less
-  | inr past ↦ absurd (false≢true (sym (past_words words a h.four past) ∙ has))
-]
 
 one_absent : (old new : Bool) → (old ≡ true → new ≡ true) → lack new ≤ lack old
 one_absent true new more = subst (λ b. lack b ≤ 0) (sym (more refl)) (omega arith)

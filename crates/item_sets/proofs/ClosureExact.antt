@@ -1,10 +1,9 @@
 -- The lookaheads that are found are those of the closure.
-use Rattle.std.proofs.Common.{◌≡◌, ℕ, zero, suc, ◌<◌, ◌↔◌, ◌⊎◌, inl, inr, true, false, ◌&&◌, ◌==◌, IsTrue, List, [], ◌∷◌, ◌++◌, length, get_or, take, slice_get, Option, Some, None, Contains, refl, sym, ap, subst, ◌∙◌, arith}
+use Rattle.std.proofs.Common.{◌≡◌, ℕ, ◌<◌, ◌↔◌, ◌⊎◌, inl, inr, true, false, ◌&&◌, IsTrue, List, [], ◌∷◌, ◌++◌, length, get_or, take, slice_get, Option, Some, None, Contains, refl, sym, ap, subst, ◌∙◌, arith}
 use Rattle.std.specs.Option.{option_to_list}
-use Rattle.std.proofs.lemmas.Bool.{or_left, or_right, or_cases, and_parts, and_from, false≢true, eqb-true, eq-eqb}
+use Rattle.std.proofs.lemmas.Bool.{or_left, or_right, or_cases, and_parts, and_from}
 use Rattle.std.proofs.lemmas.List.{take-append-drop, length-take-le, nil_from_length, length-append}
 use Rattle.std.proofs.lemmas.List.Elements.{All-contains, Contains-push, Contains-append_left, Contains-push_cases}
-use Rattle.std.proofs.lemmas.List.Folds.{list_any-append}
 use Rattle.std.proofs.lemmas.Option.{slice_get_within, slice_get-get_or}
 use Rattle.grammar_data.specs.declared.rule.Sym.{Sym}
 use Rattle.grammar_data.specs.declared.rule.Sym.TheVariants.{Name}
@@ -19,39 +18,12 @@ use Rattle.item_theory.specs.Items.{Item, Dotted, all_rules}
 use Rattle.item_theory.specs.Chains.{Opens, opens, Closure, kept, opened}
 use Rattle.item_theory.proofs.ItemLemmas.{own_rule, dotted_once}
 use Rattle.item_theory.proofs.ClosureLemmas.{closure_within, open_found, found_open}
-use Rattle.item_sets.specs.declared.entry.Entry.{Entry}
+use Rattle.collection_data.specs.declared.entry.Entry.{Entry}
 use Rattle.item_sets.specs.declared.spot.Spot.{Spot}
-use Rattle.item_sets.specs.Entries.{entry_has, entries_have, IsEntry}
+use Rattle.collection_data.specs.Entries.{entry_has, entries_have, IsEntry}
+use Rattle.collection_data.proofs.EntryLemmas.{entry_parts, entry_from, have_pushed}
 use Rattle.item_sets.specs.Spots.{IsSpotAt, IsOpening}
 use Rattle.item_sets.specs.Closing.{ahead_in, carries, IsGrown, IsRowOpened, IsSetting, Calls, IsSettled, IsClosing, IsOpenedItem}
-
--- ---- items of entries
-
-pub entry_parts : (e : Entry) (i : Item) → IsTrue (entry_has e i) → (e.rule ≡ i.rule) × (e.dot ≡ i.dot) × IsTrue (has_token e.ahead i.ahead)
-entry_parts e i h =
-    let first = and_parts (e.rule == i.rule) _ h in
-    let second = and_parts (e.dot == i.dot) _ first.1 in
-    (eqb-true e.rule i.rule first.0, eqb-true e.dot i.dot second.0, second.1)
-
-pub entry_from : (e : Entry) (i : Item) → e.rule ≡ i.rule → e.dot ≡ i.dot → IsTrue (has_token e.ahead i.ahead) → IsTrue (entry_has e i)
-entry_from e i rule dot has = and_from _ _ (eq-eqb e.rule i.rule rule) (and_from _ _ (eq-eqb e.dot i.dot dot) has)
-
-one_entry : (e : Entry) (i : Item) → (entry_has e i ≡ true) ⊎ (false ≡ true) → IsTrue (entry_has e i)
-one_entry e i (inl h) = h
-one_entry e i (inr h) = absurd (false≢true h)
-
-pub have_pushed : (entries : List Entry) (e : Entry) (i : Item) → IsTrue (entries_have (entries ++ e ∷ []) i) → IsTrue (entries_have entries i) ⊎ IsTrue (entry_has e i)
-have_pushed entries e i h = cases (or_cases _ _ (sym (list_any-append (λ (d : Entry). entry_has d i) entries (e ∷ [])) ∙ h))
-  where
-    cases : (entries_have entries i ≡ true) ⊎ (entries_have (e ∷ []) i ≡ true) → IsTrue (entries_have entries i) ⊎ IsTrue (entry_has e i)
-    cases (inl k) = inl k
-    cases (inr k) = inr (one_entry e i (or_cases _ _ k))
-
--- an entry's items are those of its list
-pub have_at : (entries : List Entry) (k : ℕ) (d : Entry) (i : Item) → k < length entries → IsTrue (entry_has (get_or entries k d) i) → IsTrue (entries_have entries i)
-have_at [] k d i less h = absurd (omega arith)
-have_at (e ∷ es) zero d i less h = or_left _ _ h
-have_at (e ∷ es) (suc k) d i less h = or_right _ _ (have_at es k d i (omega arith) h)
 
 -- ---- spots as sources of lookaheads
 

@@ -14,27 +14,20 @@ use Rattle.grammar_theory.specs.Rules.{IsRule}
 use Rattle.grammar_theory.proofs.RuleLemmas.{rule_once}
 use Rattle.item_theory.specs.Items.{Item}
 use Rattle.item_theory.proofs.ItemLemmas.{own_rule}
-use Rattle.item_sets.specs.declared.entry.Entry.{Entry}
-use Rattle.item_sets.specs.Entries.{entry_has, entries_have, IsEntryBefore, IsEntry, AreEntries}
+use Rattle.collection_data.specs.declared.entry.Entry.{Entry}
+use Rattle.collection_data.specs.Entries.{entry_has, entries_have, IsEntryBefore, IsEntry, AreEntries}
 use Rattle.item_sets.specs.Closing.{IsOpenedItem, IsSetting, IsClosing}
 use Rattle.item_sets.specs.Layout.{IsKernel, IsFrontLaid, front_entry, IsMovedLaid, IsLaid, IsLaidOut, IsClosureOf}
-use Rattle.item_sets.proofs.ClosureExact.{entry_parts, entry_from, closure_known}
+use Rattle.collection_data.proofs.EntryLemmas.{entry_parts, entry_from, Rising, rising_of}
+use Rattle.item_sets.proofs.ClosureExact.{closure_known}
 use Rattle.item_sets.specs.declared.spot.Spot.{Spot}
-use Rattle.item_sets.proofs.ClosingLemmas.{past_words}
+use Rattle.collection_data.proofs.TokenLemmas.{past_words}
 
 -- ---- one more among others
 
 pub all_insert : {X : Type 0} (P : X → Type 0) (xs ys : List X) (e : X) → All P (xs ++ ys) → P e → All P (xs ++ e ∷ ys)
 all_insert P [] ys e all p = All-cons P e ys p all
 all_insert P (x ∷ xs) ys e all p = All-cons P x (xs ++ e ∷ ys) (All-head P x (xs ++ ys) all) (all_insert P xs ys e (All-tail P x (xs ++ ys) all) p)
-
-abbrev pub Rising : List Entry → Type 0
-Rising [] = Unit {0}
-Rising (e ∷ es) = All (IsEntryBefore e) es × Rising es
-
-pub rising_of : (es : List Entry) → AllPairs IsEntryBefore es → Rising es
-rising_of [] h = tt
-rising_of (e ∷ es) h = (λ k d less. h 0 (suc k) d (omega arith) (omega arith), rising_of es (λ i j d less within. h (suc i) (suc j) d (omega arith) (omega arith)))
 
 pub pairs_of : (es : List Entry) → Rising es → AllPairs IsEntryBefore es
 pairs_of [] h = λ i j d less within. absurd (omega arith)

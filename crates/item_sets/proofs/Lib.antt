@@ -3,9 +3,8 @@ pub mod TableLemmas
 pub mod ClosingLemmas
 pub mod ClosureExact
 pub mod LayoutLemmas
-pub mod SameEntries
+pub mod KernelLemmas
 pub mod SuccessorLemmas
 pub mod StateFinding
 pub mod StepLemmas
 pub mod SettingLemmas
-pub mod TableLaws

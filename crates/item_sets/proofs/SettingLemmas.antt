@@ -17,20 +17,21 @@ use Rattle.grammar_theory.specs.UsefulNames.{AllProductive}
 use Rattle.item_theory.specs.Items.{Item, all_rules}
 use Rattle.item_theory.specs.Chains.{Closure, kept, opened, opens, IsFirstItem}
 use Rattle.item_theory.proofs.ItemLemmas.{WhichRule, is_own, is_last, which_rule, last_rule, item_same}
-use Rattle.item_sets.specs.declared.entry.Entry.{Entry}
+use Rattle.collection_data.specs.declared.entry.Entry.{Entry}
 use Rattle.item_sets.specs.declared.spot.Spot.{Spot}
-use Rattle.item_sets.specs.Entries.{entry_has, entries_have, IsEntry, AreEntries}
+use Rattle.collection_data.specs.Entries.{entry_has, entries_have, IsEntry, AreEntries}
 use Rattle.item_sets.specs.Spots.{AreSpots, IsTable}
 use Rattle.item_sets.specs.Closing.{IsSetting}
 use Rattle.item_sets.specs.Layout.{IsClosureOf, IsKernel}
 use Rattle.item_sets.specs.Successors.{key_of, moved_entries, AreSuccessors}
 use Rattle.item_sets.specs.Found.{same_key, state_at}
-use Rattle.item_sets.specs.Searching.{kernel_of, IsStateSet, FindsStates, IsFirstEntry, IsStepFound, IsFoundOrAdded, symbol_at}
-use Rattle.item_sets.proofs.TableLemmas.{in_range, rule_of}
-use Rattle.item_sets.proofs.ClosureExact.{entry_parts, entry_from}
-use Rattle.item_sets.proofs.LayoutLemmas.{rising_of}
-use Rattle.item_sets.proofs.SameEntries.{same_entries, kernel_has, kernel_entries}
-use Rattle.item_sets.proofs.StepLemmas.{symbol_of_column, column_at}
+use Rattle.item_sets.specs.Searching.{kernel_of, IsStateSet, FindsStates, IsFirstEntry, IsStepFound, IsFoundOrAdded}
+use Rattle.collection_data.specs.Rows.{symbol_at}
+use Rattle.grammar_laws.proofs.RangeLemmas.{in_range, rule_of}
+use Rattle.collection_data.proofs.EntryLemmas.{entry_parts, entry_from, rising_of}
+use Rattle.collection_data.proofs.SameEntries.{same_entries}
+use Rattle.item_sets.proofs.KernelLemmas.{kernel_has, kernel_entries}
+use Rattle.collection_data.proofs.RowLemmas.{symbol_of_column, column_at}
 use Rattle.item_sets.proofs.SuccessorLemmas.{kernel_is, kernel_dots}
 use Rattle.item_sets.proofs.StateFinding.{kept_get}
 

@@ -1,5 +1,5 @@
 -- States are found by the keys of their kernels.
-use Rattle.std.proofs.Common.{◌≡◌, ℕ, zero, suc, ◌<◌, ◌↔◌, ◌⊎◌, inl, inr, true, false, if◌then◌else◌, IsTrue, List, [], ◌∷◌, ◌++◌, length, slice_get, Some, None, All, refl, sym, ap, subst, ◌∙◌, arith}
+use Rattle.std.proofs.Common.{◌≡◌, ℕ, zero, suc, ◌<◌, ◌↔◌, ◌⊎◌, inl, inr, true, false, if◌then◌else◌, IsTrue, List, [], ◌∷◌, ◌++◌, length, slice_get, Some, None, All, refl, sym, ap, subst, ◌∙◌}
 use Rattle.std.specs.Cmp.Lexicographic.{same_text}
 use Rattle.std.specs.HashMap.{HashMap}
 use Rattle.std.specs.Global.{Vec}
@@ -10,13 +10,13 @@ use Rattle.grammar_data.specs.Grammar.{Grammar}
 use Rattle.grammar_theory.proofs.RuleLemmas.{slice_get_last, slice_get_cases}
 use Rattle.grammar_data.specs.TokenSet.{IsTokenSet}
 use Rattle.item_theory.specs.Chains.{Closure}
-use Rattle.item_sets.specs.declared.entry.Entry.{Entry}
-use Rattle.item_sets.specs.Entries.{entries_have, IsEntry, AreEntries}
+use Rattle.collection_data.specs.declared.entry.Entry.{Entry}
+use Rattle.collection_data.specs.Entries.{entries_have, IsEntry, AreEntries}
 use Rattle.item_sets.specs.Layout.{IsClosureOf}
 use Rattle.item_sets.specs.Successors.{key_of}
 use Rattle.item_sets.specs.Found.{same_key, state_at}
 use Rattle.item_sets.specs.Searching.{kernel_of, IsStateSet, HasKernel, FindsStates, IsNewKernel}
-use Rattle.item_sets.proofs.SameEntries.{same_from_key, kernel_entries, kernel_of_closure}
+use Rattle.item_sets.proofs.KernelLemmas.{same_from_key, kernel_entries, kernel_of_closure}
 
 abbrev pub AreSets : List Entry → Type 0
 AreSets es = All (λ (e : Entry). IsTokenSet e.ahead) es
@@ -32,11 +32,6 @@ pub kept_get : {X : Type 0} (xs ys : List X) (k : ℕ) (x : X) → slice_get xs 
 kept_get [] ys k x e = absurd (none-some x e)
 kept_get (z ∷ xs) ys zero x e = e
 kept_get (z ∷ xs) ys (suc k) x e = kept_get xs ys k x e
-
-pub get_at : {X : Type 0} (xs : List X) (k : ℕ) → k < length xs → (x : X) × (slice_get xs k ≡ Some x)
-get_at [] k less = absurd (omega arith)
-get_at (x ∷ xs) zero less = (x, refl)
-get_at (x ∷ xs) (suc k) less = get_at xs k (omega arith)
 
 pub set_at_state : (g : Grammar) (states : List (List Entry)) → All (IsStateSet g) states → (q : ℕ) (es : List Entry) → slice_get states q ≡ Some es → IsStateSet g es
 set_at_state g states all q es at = subst (λ (l : List Entry). IsStateSet g l) (get_or_from_slice_get states q es es at) (All-get_or (IsStateSet g) states q es (slice_get_within states q es at) all)

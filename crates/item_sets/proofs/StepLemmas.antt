@@ -1,90 +1,37 @@
 -- One step of the search, and its end.
-use Rattle.std.proofs.Common.{◌≡◌, ◌≢◌, ℕ, zero, suc, ◌+◌, ◌-◌, ◌*◌, ◌<◌, ◌≤◌, ◌↔◌, ◌⊎◌, inl, inr, Bool, nat_lt, if◌then◌else◌, IsTrue, List, [], ◌∷◌, ◌++◌, length, get_or, slice_get, Option, Some, None, All, refl, sym, ap, subst, ◌∙◌, arith}
-use Rattle.std.proofs.lemmas.Bool.{false≢true, lt-ltb, le-ltb, ltb-true, cases_lt, cases_order}
-use Rattle.std.proofs.lemmas.Nat.{mul-le}
+use Rattle.std.proofs.Common.{◌≡◌, ◌≢◌, ℕ, zero, suc, ◌+◌, ◌-◌, ◌*◌, ◌<◌, ◌≤◌, ◌↔◌, ◌⊎◌, inl, inr, IsTrue, List, [], ◌∷◌, ◌++◌, length, slice_get, Option, Some, None, All, refl, sym, ap, subst, ◌∙◌, arith}
+use Rattle.std.proofs.lemmas.Bool.{false≢true, cases_lt}
 use Rattle.std.proofs.lemmas.List.{length_push}
 use Rattle.std.proofs.lemmas.List.Elements.{All-head}
-use Rattle.std.proofs.lemmas.Option.{slice_get_within, slice_get-get_or, same_Some, none-some, slice_get_past, cond_some, option_and_then_some}
+use Rattle.std.proofs.lemmas.Option.{slice_get_within, same_Some, none-some, slice_get_past}
 use Rattle.grammar_data.specs.declared.rule.Sym.{Sym}
 use Rattle.grammar_data.specs.declared.rule.Sym.TheVariants.{Token, Name}
 use Rattle.grammar_data.specs.Grammar.{Grammar}
-use Rattle.grammar_theory.specs.Rules.{IsInRange, NamesBelow, TokensBelow}
+use Rattle.grammar_theory.specs.Rules.{IsInRange}
 use Rattle.grammar_theory.proofs.RuleLemmas.{slice_get_last, slice_get_cases}
 use Rattle.item_theory.specs.Items.{Item, IsValid, IsViable, HaveSameItems}
 use Rattle.item_theory.specs.Chains.{Closure, kept, IsMoved, IsFirstItem}
 use Rattle.item_theory.specs.LeadingWords.{HasState}
 use Rattle.item_theory.specs.Search.{IsSearchedTo, next_symbol}
-use Rattle.item_theory.specs.Collections.{IsStateOf, HasMoreStates}
+use Rattle.item_theory.specs.Collections.{HasMoreStates}
 use Rattle.item_theory.proofs.ClosureLemmas.{closure_weaker}
-use Rattle.item_theory.proofs.ItemLaws.{first_closure_law, moved_closure_law, prefix_range_law}
+use Rattle.item_theory.proofs.ItemLaws.{first_closure_law, moved_closure_law}
 use Rattle.item_theory.proofs.StateLaws.{step_law, search_begin_law, search_old_law, search_new_law, search_names_law, search_next_law, search_end_law}
-use Rattle.item_theory.proofs.StateLemmas.{same_items_refl, same_items_sym, same_items_trans, leading_once, place_once}
-use Rattle.item_sets.specs.declared.entry.Entry.{Entry}
+use Rattle.item_theory.proofs.StateLemmas.{same_items_refl}
+use Rattle.collection_data.specs.declared.entry.Entry.{Entry}
 use Rattle.item_sets.specs.declared.spot.Spot.{Spot}
-use Rattle.item_sets.specs.Entries.{entries_have, IsEntry, AreEntries}
-use Rattle.std.specs.Option.{option_and_then}
-use Rattle.item_sets.specs.Tables.{Tables, column_of, step_in, has_item, IsCollectionOf}
-use Rattle.item_theory.proofs.CollectionLaws.{more_states_law}
+use Rattle.collection_data.specs.Entries.{entries_have, IsEntry, AreEntries}
 use Rattle.item_sets.specs.Closing.{IsSetting}
 use Rattle.item_sets.specs.Layout.{IsClosureOf}
 use Rattle.item_sets.specs.Successors.{moved_entries}
-use Rattle.item_sets.specs.Searching.{kernel_of, IsStateSet, IsNewKernel, IsFoundOrAdded, IsStepFound, symbol_at, IsStepOf, IsSearchAt, IsSearchedAll, IsSearchBefore}
-use Rattle.item_sets.proofs.SameEntries.{kernel_of_closure, item_in}
+use Rattle.item_sets.specs.Searching.{kernel_of, IsStateSet, IsNewKernel, IsFoundOrAdded, IsStepFound, IsSearchAt, IsSearchBefore}
+use Rattle.collection_data.specs.Rows.{symbol_at, IsStepOf, AreAllRowsOf}
+use Rattle.item_sets.proofs.KernelLemmas.{kernel_of_closure}
+use Rattle.collection_data.proofs.SameEntries.{item_in}
 use Rattle.item_sets.proofs.SuccessorLemmas.{kernel_sound, kernel_whole, kernel_is, kernel_dots}
-use Rattle.item_sets.proofs.StateFinding.{kept_get, get_at, set_at_state}
-
--- ---- rows and columns
-
-times_le : (a b w : ℕ) → a ≤ b → a * w ≤ b * w
-times_le a b w le = mul-le a w b w le (omega arith)
-
-pub row_once : (q k p c w : ℕ) → k < w → c < w → q * w + k ≡ p * w + c → (q ≡ p) × (k ≡ c)
-row_once q k p c w small less same = cases (cases_order q p)
-  where
-    cases : (q ≡ p) ⊎ ((q < p) ⊎ (p < q)) → (q ≡ p) × (k ≡ c)
-    cases (inl e) = let rows = ap (λ n. n * w) e in (e, omega arith)
-    cases (inr (inl before)) = let le = times_le (suc q) p w before in absurd (omega arith)
-    cases (inr (inr after)) = let le = times_le (suc p) q w after in absurd (omega arith)
-
-pub row_before : (q k p c w : ℕ) → c ≤ w → k < w → q * w + k < p * w + c → q ≤ p
-row_before q k p c w small less before = cases (cases_lt p q)
-  where
-    cases : (p < q) ⊎ (q ≤ p) → q ≤ p
-    cases (inl after) = let le = times_le (suc p) q w after in absurd (omega arith)
-    cases (inr le) = le
-
--- ---- the symbols of columns
-
-pub token_at : (g : Grammar) (c : ℕ) → c < g.tokens → symbol_at g c ≡ Token c
-token_at g c less = ap (λ (b : Bool). if b then Token c else Name (c - g.tokens)) (lt-ltb c g.tokens less)
-
-pub name_at : (g : Grammar) (c : ℕ) → g.tokens ≤ c → symbol_at g c ≡ Name (c - g.tokens)
-name_at g c le = ap (λ (b : Bool). if b then Token c else Name (c - g.tokens)) (le-ltb c g.tokens le)
-
-pub column_at : (g : Grammar) (c : ℕ) → c < g.tokens + g.names → column_of g.tokens g.names (symbol_at g c) ≡ Some c
-column_at g c less = cases (cases_lt c g.tokens)
-  where
-    cases : (c < g.tokens) ⊎ (g.tokens ≤ c) → column_of g.tokens g.names (symbol_at g c) ≡ Some c
-    cases (inl token) = ap (column_of g.tokens g.names) (token_at g c token) ∙ ap (λ (b : Bool). if b then Some c else None) (lt-ltb c g.tokens token)
-    cases (inr name) =
-        let small : c - g.tokens < g.names = omega arith in
-        let back : g.tokens + (c - g.tokens) ≡ c = omega arith in
-        ap (column_of g.tokens g.names) (name_at g c name) ∙ ap (λ (b : Bool). if b then Some (g.tokens + (c - g.tokens)) else None) (lt-ltb (c - g.tokens) g.names small) ∙ ap Some back
-
-pub symbol_of_column : (g : Grammar) (x : Sym) (c : ℕ) → column_of g.tokens g.names x ≡ Some c → (c < g.tokens + g.names) × (symbol_at g c ≡ x)
-symbol_of_column g (Token a) c e =
-    let p = cond_some (nat_lt a g.tokens) a c e in
-    let less = ltb-true a g.tokens p.0 in
-    let same = p.1 in
-    let small : c < g.tokens = omega arith in
-    (omega arith, token_at g c small ∙ ap Token (sym p.1))
-symbol_of_column g (Name n) c e =
-    let p = cond_some (nat_lt n g.names) (g.tokens + n) c e in
-    let less = ltb-true n g.names p.0 in
-    let same = p.1 in
-    let le : g.tokens ≤ c = omega arith in
-    let back : c - g.tokens ≡ n = omega arith in
-    (omega arith, name_at g c le ∙ ap Name back)
+use Rattle.item_sets.proofs.StateFinding.{kept_get, set_at_state}
+use Rattle.collection_data.proofs.EntryLemmas.{get_at}
+use Rattle.collection_data.proofs.RowLemmas.{row_once, row_before, token_at, name_at, column_at}
 
 -- ---- the search goes on by columns
 
@@ -147,7 +94,7 @@ module _ (g : Grammar) (rows openings : List (List Spot)) (setting : IsSetting g
   own = (set_at_state g states all p set here).are
 
   valid_here : (i : Item) → IsTrue (entries_have set i) ↔ IsValid g search.top i
-  valid_here i = search.tables.items p search.top set search.searched.here here i
+  valid_here i = search.rows.items p search.top set search.searched.here here i
 
   given_moved : (j : Item) → Given j → IsMoved g (IsValid g search.top) (symbol_at g c) j
   given_moved j h = let m = kernel_sound g rows openings setting (symbol_at g c) c (column_at g c less) set own.each j h in (m.0, (valid_here m.0).0 m.1, m.2)
@@ -179,7 +126,7 @@ module _ (g : Grammar) (rows openings : List (List Spot)) (setting : IsSetting g
   state_items : (q : ℕ) (es : List Entry) (ys : List Sym) → Kernel ≢ [] → slice_get states q ≡ Some es → kernel_of es ≡ Kernel → slice_get search.words q ≡ Some ys → HaveSameItems g ys Word
   state_items q es ys some at same word i =
       let closed = (set_at_state g states all q es at).closed (λ e. some (sym same ∙ e)) i in
-      let items = search.tables.items q ys es word at i in (
+      let items = search.rows.items q ys es word at i in (
         λ v. closed_valid i (subst (λ (k : List Entry). Closure g (λ j. IsTrue (entries_have k j)) i) same (closed.0 (items.1 v))),
         λ v. items.0 (closed.1 (subst (λ (k : List Entry). Closure g (λ j. IsTrue (entries_have k j)) i) (sym same) (valid_closed i v))),
       )
@@ -187,9 +134,9 @@ module _ (g : Grammar) (rows openings : List (List Spot)) (setting : IsSetting g
   new_has_no_state : IsNewKernel states Kernel → HasState g search.words Word → ⊥
   new_has_no_state fresh (q, ys, word, same) =
       let within = slice_get_within search.words q ys word in
-      let at = get_at states q (let size = search.tables.count in omega arith) in
+      let at = get_at states q (let size = search.rows.count in omega arith) in
       let es_are = (set_at_state g states all q at.0 at.1).are in
-      let items = search.tables.items q ys at.0 word at.1 in
+      let items = search.rows.items q ys at.0 word at.1 in
       fresh q (
         at.0,
         at.1,
@@ -225,10 +172,10 @@ module _ (g : Grammar) (rows openings : List (List Spot)) (setting : IsSetting g
     words = search.words;
     top = search.top;
     searched = next_column g setting.range search.words p search.top c (search_old_law g search.words p search.top (symbol_at g c) search.searched old);
-    tables = record {
-      count = search.tables.count;
-      items = search.tables.items;
-      along = λ q k xs o small at word. step_cases search.words Word step is q k xs o small refl (λ past. search.tables.along q k xs o small past word)
+    rows = record {
+      count = search.rows.count;
+      items = search.rows.items;
+      along = λ q k xs o small at word. step_cases search.words Word step is q k xs o small refl (λ past. search.rows.along q k xs o small past word)
           (word_here search.words search.searched.here q k xs word) (slice_get_cases steps step o (q * (g.tokens + g.names) + k) at);
     };
     size = pushed_size step;
@@ -240,9 +187,9 @@ module _ (g : Grammar) (rows openings : List (List Spot)) (setting : IsSetting g
     Words = search.words ++ Word ∷ []
 
     new_items : (q : ℕ) (xs : List Sym) (es : List Entry) → (i : Item) → (slice_get search.words q ≡ Some xs) ⊎ ((q ≡ length search.words) × (Word ≡ xs)) → (slice_get states q ≡ Some es) ⊎ ((q ≡ length states) × (entries ≡ es)) → IsTrue (entries_have es i) ↔ IsValid g xs i
-    new_items q xs es i (inl word) (inl at) = search.tables.items q xs es word at i
-    new_items q xs es i (inl word) (inr last) = let within = slice_get_within search.words q xs word in let size = search.tables.count in let place = last.0 in absurd (omega arith)
-    new_items q xs es i (inr last) (inl at) = let within = slice_get_within states q es at in let size = search.tables.count in let place = last.0 in absurd (omega arith)
+    new_items q xs es i (inl word) (inl at) = search.rows.items q xs es word at i
+    new_items q xs es i (inl word) (inr last) = let within = slice_get_within search.words q xs word in let size = search.rows.count in let place = last.0 in absurd (omega arith)
+    new_items q xs es i (inr last) (inl at) = let within = slice_get_within states q es at in let size = search.rows.count in let place = last.0 in absurd (omega arith)
     new_items q xs es i (inr word) (inr last) = (
       λ h. subst (λ l. IsValid g l i) word.1 (closed_valid i ((closure.have i).0 (subst (λ (l : List Entry). IsTrue (entries_have l i)) (sym last.1) h))),
       λ v. subst (λ (l : List Entry). IsTrue (entries_have l i)) last.1 ((closure.have i).1 (valid_closed i (subst (λ l. IsValid g l i) (sym word.1) v))),
@@ -253,7 +200,7 @@ module _ (g : Grammar) (rows openings : List (List Spot)) (setting : IsSetting g
 
     -- a row that was begun is of an old word
     old_along : (q k : ℕ) (xs : List Sym) (o : Option ℕ) → k < g.tokens + g.names → slice_get steps (q * (g.tokens + g.names) + k) ≡ Some o → (slice_get search.words q ≡ Some xs) ⊎ ((q ≡ length search.words) × (Word ≡ xs)) → IsStepOf g Words (xs ++ symbol_at g k ∷ []) o
-    old_along q k xs o small at (inl word) = not_viable_on g search.words Word (xs ++ symbol_at g k ∷ []) o (search.tables.along q k xs o small at word)
+    old_along q k xs o small at (inl word) = not_viable_on g search.words Word (xs ++ symbol_at g k ∷ []) o (search.rows.along q k xs o small at word)
     old_along q k xs o small at (inr last) =
         let inside = slice_get_within steps (q * (g.tokens + g.names) + k) o at in
         let before : q * (g.tokens + g.names) + k < p * (g.tokens + g.names) + c = let size = search.size in omega arith in
@@ -267,11 +214,11 @@ module _ (g : Grammar) (rows openings : List (List Spot)) (setting : IsSetting g
       words = Words;
       top = search.top;
       searched = next_column g setting.range Words p search.top c (search_new_law g setting.range search.words p search.top (symbol_at g c) search.searched (viable_some some) (new_has_no_state fresh));
-      tables = record {
-        count = length_push search.words Word ∙ ap (λ n. n + 1) search.tables.count ∙ sym (length_push states entries);
+      rows = record {
+        count = length_push search.words Word ∙ ap (λ n. n + 1) search.rows.count ∙ sym (length_push states entries);
         items = λ q xs es word at i. new_items q xs es i (slice_get_cases search.words Word xs q word) (slice_get_cases states entries es q at);
         along = λ q k xs o small at word. step_cases Words Word (Some (length states))
-            (Word, subst (λ n. slice_get Words n ≡ Some Word) search.tables.count (slice_get_last search.words Word), same_items_refl g Word) q k xs o small refl
+            (Word, subst (λ n. slice_get Words n ≡ Some Word) search.rows.count (slice_get_last search.words Word), same_items_refl g Word) q k xs o small refl
             (λ past. old_along q k xs o small past (slice_get_cases search.words Word xs q word))
             (word_here Words top_kept q k xs word) (slice_get_cases steps (Some (length states)) o (q * (g.tokens + g.names) + k) at);
       };
@@ -281,7 +228,7 @@ module _ (g : Grammar) (rows openings : List (List Spot)) (setting : IsSetting g
   some_step : (new : List (List Entry)) (q : ℕ) → Kernel ≢ [] → IsFoundOrAdded g Kernel states new q → IsSearchAt g new (steps ++ Some q ∷ []) p (c + 1)
   some_step new q some (inl (found, same)) =
       let within = slice_get_within states q found.0 found.1 in
-      let word = get_at search.words q (let size = search.tables.count in omega arith) in
+      let word = get_at search.words q (let size = search.rows.count in omega arith) in
       let items = state_items q found.0 word.0 some found.1 found.2 word.1 in
       subst (λ (s : List (List Entry)). IsSearchAt g s (steps ++ Some q ∷ []) p (c + 1)) (sym same) (same_states (Some q) (word.0, word.1, items) (λ v. (q, word.0, word.1, items)))
   some_step new q some (inr h) =
@@ -298,7 +245,7 @@ module _ (g : Grammar) (rows openings : List (List Spot)) (setting : IsSetting g
   more_states limit le some fresh =
       let words = search.words ++ Word ∷ [] in
       let next = search_new_law g setting.range search.words p search.top (symbol_at g c) search.searched (viable_some some) (new_has_no_state fresh) in
-      (words, next.are_leading, (let size = search.tables.count in let push = length_push search.words Word in omega arith))
+      (words, next.are_leading, (let size = search.rows.count in let push = length_push search.words Word in omega arith))
 
 -- ---- the begin and the end
 
@@ -323,7 +270,7 @@ module _ (g : Grammar) (range : IsInRange g) where
     words = [] ∷ [];
     top = [];
     searched = first_column g range ([] ∷ []) 0 [] (search_begin_law g);
-    tables = record {
+    rows = record {
       count = refl;
       items = λ q xs es word at i.
           subst (λ (l : List Sym). IsTrue (entries_have es i) ↔ IsValid g l i) (sym (nil_get q xs word).1)
@@ -342,23 +289,23 @@ module _ (g : Grammar) (range : IsInRange g) where
 
     pub row_next : p + 1 < length states → IsSearchAt g states steps (p + 1) 0
     row_next less =
-        let word = get_at search.words (p + 1) (let size = search.tables.count in omega arith) in
+        let word = get_at search.words (p + 1) (let size = search.rows.count in omega arith) in
         record {
           words = search.words;
           top = word.0;
           searched = first_column g range search.words (p + 1) word.0 (search_next_law g range search.words p search.top word.0 last_name word.1);
-          tables = search.tables;
+          rows = search.rows;
           size = (let size = search.size in let row = one_more_row p (g.tokens + g.names) in omega arith);
         }
       where
         one_more_row : (q w : ℕ) → (q + 1) * w + 0 ≡ q * w + w
         one_more_row q w = omega arith
 
-    pub row_last : p + 1 ≡ length states → IsSearchedAll g states steps
+    pub row_last : p + 1 ≡ length states → AreAllRowsOf g states steps
     row_last last = record {
       words = search.words;
-      are_states = search_end_law g range search.words p search.top last_name (last ∙ sym search.tables.count);
-      tables = search.tables;
+      are_states = search_end_law g range search.words p search.top last_name (last ∙ sym search.rows.count);
+      rows = search.rows;
       size = (let size = search.size in let row = one_row p (g.tokens + g.names) in let rows = ap (λ n. n * (g.tokens + g.names)) last in omega arith);
     }
       where
@@ -367,92 +314,3 @@ module _ (g : Grammar) (range : IsInRange g) where
 
     pub search_before : IsSearchBefore g states steps (p + 1)
     search_before = record { within = row_next; end = row_last }
-
--- ---- the tables are the collection
-
-module _ (g : Grammar) (range : IsInRange g) (t : Tables) (tokens : t.tokens ≡ g.tokens) (names : t.names ≡ g.names) (done : IsSearchedAll g t.states t.steps) (all : All (IsStateSet g) t.states) where
-  abbrev Along : ℕ → Sym → Option ℕ
-  Along q x = step_in t q x
-
-  step_in_row : (q : ℕ) (x : Sym) → step_in t q x ≡ option_and_then (λ k. get_or t.steps (q * (g.tokens + g.names) + k) None) (column_of g.tokens g.names x)
-  step_in_row q x = ap (λ (m : ℕ). option_and_then (λ k. get_or t.steps (q * (m + t.names) + k) None) (column_of m t.names x)) tokens
-      ∙ ap (λ (m : ℕ). option_and_then (λ k. get_or t.steps (q * (g.tokens + m) + k) None) (column_of g.tokens m x)) names
-
-  inside : (q k : ℕ) (xs : List Sym) → slice_get done.words q ≡ Some xs → k < g.tokens + g.names → q * (g.tokens + g.names) + k < length t.steps
-  inside q k xs word small =
-      let within = slice_get_within done.words q xs word in
-      let size = done.size in
-      let count = done.tables.count in
-      let le = times_le (suc q) (length t.states) (g.tokens + g.names) (omega arith) in
-      omega arith
-
-  found_step : (q k : ℕ) (xs : List Sym) → slice_get done.words q ≡ Some xs → k < g.tokens + g.names → IsStepOf g done.words (xs ++ symbol_at g k ∷ []) (get_or t.steps (q * (g.tokens + g.names) + k) None)
-  found_step q k xs word small = done.tables.along q k xs _ small (slice_get-get_or t.steps (q * (g.tokens + g.names) + k) None (inside q k xs word small)) word
-
-  some_of_step : (xs : List Sym) (o : Option ℕ) (p : ℕ) → IsStepOf g done.words xs o → o ≡ Some p → IsStateOf g done.words p xs
-  some_of_step xs None p is e = absurd (none-some p e)
-  some_of_step xs (Some q) p is e = subst (λ n. IsStateOf g done.words n xs) (same_Some _ _ e) is
-
-  viable_state : (p : ℕ) (xs : List Sym) → IsStateOf g done.words p xs → IsViable g xs
-  viable_state p xs (ys, at, same) = let v = (done.are_states.are_leading.leading p ys at).viable in (v.0, (same v.0).0 v.1)
-
-  same_state : (p q : ℕ) (xs : List Sym) → IsStateOf g done.words p xs → IsStateOf g done.words q xs → p ≡ q
-  same_state p q xs (ys, at, same) (zs, too, also) =
-      let leading = done.are_states.are_leading in
-      let e = leading_once g ys zs (leading.leading p ys at) (leading.leading q zs too) (same_items_trans g ys xs zs same (same_items_sym g zs xs also)) in
-      place_once g done.words leading p q zs (at ∙ ap Some e) too
-
-  step_of_state : (xs : List Sym) (o : Option ℕ) (p : ℕ) → IsStepOf g done.words xs o → IsStateOf g done.words p xs → o ≡ Some p
-  step_of_state xs None p is state = absurd (is (viable_state p xs state))
-  step_of_state xs (Some q) p is state = ap Some (same_state q p xs is state)
-
-  step_to : (q p : ℕ) (xs : List Sym) (x : Sym) → slice_get done.words q ≡ Some xs → step_in t q x ≡ Some p → IsStateOf g done.words p (xs ++ x ∷ [])
-  step_to q p xs x word e = option_and_then_some (λ k. get_or t.steps (q * (g.tokens + g.names) + k) None) (column_of g.tokens g.names x) p (sym (step_in_row q x) ∙ e) (λ k at is.
-      let column = symbol_of_column g x k at in
-      subst (λ y. IsStateOf g done.words p (xs ++ y ∷ [])) column.1 (some_of_step (xs ++ symbol_at g k ∷ []) _ p (found_step q k xs word column.0) is))
-
-  last_names : (bound : ℕ) (xs : List Sym) (n : ℕ) → NamesBelow bound (xs ++ Name n ∷ []) → n < bound
-  last_names bound [] n h = h.0
-  last_names bound (Token a ∷ xs) n h = last_names bound xs n h
-  last_names bound (Name m ∷ xs) n h = last_names bound xs n h.1
-
-  last_tokens : (bound : ℕ) (xs : List Sym) (a : ℕ) → TokensBelow bound (xs ++ Token a ∷ []) → a < bound
-  last_tokens bound [] a h = h.0
-  last_tokens bound (Token b ∷ xs) a h = last_tokens bound xs a h.1
-  last_tokens bound (Name m ∷ xs) a h = last_tokens bound xs a h
-
-  column_in_range : (xs : List Sym) (x : Sym) → NamesBelow g.names (xs ++ x ∷ []) × TokensBelow g.tokens (xs ++ x ∷ []) → (k : ℕ) × (column_of g.tokens g.names x ≡ Some k)
-  column_in_range xs (Token a) h = (a, ap (λ (b : Bool). if b then Some a else None) (lt-ltb a g.tokens (last_tokens g.tokens xs a h.1)))
-  column_in_range xs (Name n) h = (g.tokens + n, ap (λ (b : Bool). if b then Some (g.tokens + n) else None) (lt-ltb n g.names (last_names g.names xs n h.0)))
-
-  step_from : (q p : ℕ) (xs : List Sym) (x : Sym) → slice_get done.words q ≡ Some xs → IsStateOf g done.words p (xs ++ x ∷ []) → step_in t q x ≡ Some p
-  step_from q p xs x word state =
-      let column = column_in_range xs x (prefix_range_law g range (xs ++ x ∷ []) (viable_state p (xs ++ x ∷ []) state)) in
-      let symbol = symbol_of_column g x column.0 column.1 in
-      step_in_row q x ∙ ap (option_and_then (λ k. get_or t.steps (q * (g.tokens + g.names) + k) None)) column.1
-      ∙ step_of_state (xs ++ x ∷ []) _ p (subst (λ y. IsStepOf g done.words (xs ++ y ∷ []) (get_or t.steps (q * (g.tokens + g.names) + column.0) None)) symbol.1 (found_step q column.0 xs word symbol.0)) state
-
-  item_at : (q : ℕ) (xs : List Sym) → slice_get done.words q ≡ Some xs → (i : Item) → IsTrue (has_item t q i) ↔ IsValid g xs i
-  item_at q xs word i =
-      let within = slice_get_within done.words q xs word in
-      done.tables.items q xs (get_or t.states q []) word (slice_get-get_or t.states q [] (let count = done.tables.count in omega arith)) i
-
-  pub collection_of : IsCollectionOf g t
-  collection_of = record {
-    collection = record {
-      words = done.words;
-      are_states = done.are_states;
-      count = done.tables.count;
-      items = item_at;
-      steps = λ q p xs x word. (step_to q p xs x word, step_from q p xs x word);
-    };
-    entries = λ q es at. (set_at_state g t.states all q es at).are;
-    tokens = tokens;
-    names = names;
-  }
-
-  pub few_states : (limit : ℕ) → length t.states ≤ limit → HasMoreStates g limit → ⊥
-  few_states limit le more =
-      let collection = collection_of.collection in
-      let less = (more_states_law g (length t.states) limit (has_item t) (step_in t) collection).0 more in
-      absurd (omega arith)

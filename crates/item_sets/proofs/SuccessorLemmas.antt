@@ -14,15 +14,16 @@ use Rattle.grammar_theory.proofs.RuleLemmas.{rule_once}
 use Rattle.item_theory.specs.Items.{Item, Dotted, all_rules}
 use Rattle.item_theory.specs.Chains.{Moves, moves}
 use Rattle.item_theory.proofs.ItemLemmas.{dotted_once, item_same}
-use Rattle.item_sets.specs.declared.entry.Entry.{Entry}
+use Rattle.collection_data.specs.declared.entry.Entry.{Entry}
 use Rattle.item_sets.specs.declared.spot.Spot.{Spot}
-use Rattle.item_sets.specs.Entries.{entry_has, entries_have, IsEntryBefore, IsEntry, AreEntries}
-use Rattle.item_sets.specs.Tables.{column_of}
+use Rattle.collection_data.specs.Entries.{entry_has, entries_have, IsEntryBefore, IsEntry, AreEntries}
+use Rattle.collection_data.specs.Collection.{column_of}
 use Rattle.item_sets.specs.Closing.{IsSetting}
 use Rattle.item_sets.specs.Layout.{IsKernel}
 use Rattle.item_sets.specs.Successors.{moved_over, moved_entry, moved_entries, AreSuccessors, IsPushed}
-use Rattle.item_sets.proofs.ClosureExact.{entry_parts, entry_from, IsSource, source_dotted, spot_of}
-use Rattle.item_sets.proofs.LayoutLemmas.{Rising, rising_of, pairs_of}
+use Rattle.collection_data.proofs.EntryLemmas.{entry_parts, entry_from, Rising, rising_of}
+use Rattle.item_sets.proofs.ClosureExact.{IsSource, source_dotted, spot_of}
+use Rattle.item_sets.proofs.LayoutLemmas.{pairs_of}
 
 -- ---- columns
 

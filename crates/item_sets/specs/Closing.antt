@@ -10,9 +10,9 @@ use Rattle.grammar_theory.specs.UsefulNames.{AllProductive}
 use Rattle.grammar_theory.specs.FirstTokens.{IsFound}
 use Rattle.item_theory.specs.Items.{Item, Dotted}
 use Rattle.item_theory.specs.Chains.{Closure}
-use Rattle.item_sets.specs.declared.entry.Entry.{Entry}
+use Rattle.collection_data.specs.declared.entry.Entry.{Entry}
 use Rattle.item_sets.specs.declared.spot.Spot.{Spot}
-use Rattle.item_sets.specs.Entries.{entries_have}
+use Rattle.collection_data.specs.Entries.{entries_have}
 use Rattle.item_sets.specs.Spots.{IsTable}
 
 -- the rules of the name stand with this lookahead

@@ -4,8 +4,8 @@ use Rattle.grammar_data.specs.Grammar.{Grammar}
 use Rattle.grammar_data.specs.TokenSet.{has_token}
 use Rattle.item_theory.specs.Items.{Item}
 use Rattle.item_theory.specs.Chains.{Closure}
-use Rattle.item_sets.specs.declared.entry.Entry.{Entry}
-use Rattle.item_sets.specs.Entries.{entries_have, AreEntries}
+use Rattle.collection_data.specs.declared.entry.Entry.{Entry}
+use Rattle.collection_data.specs.Entries.{entries_have, AreEntries}
 use Rattle.item_sets.specs.Closing.{IsOpenedItem}
 
 -- each entry has its dot behind a symbol, or is of the augmented rule

@@ -1,5 +1,3 @@
-pub mod Entries
-pub mod Tables
 pub mod Spots
 pub mod Closing
 pub mod Layout

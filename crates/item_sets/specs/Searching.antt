@@ -1,19 +1,17 @@
 -- The search of the states: what is known of the states and the steps while the search stands at a state and a column.
-use Rattle.std.specs.Prelude.{◌≡◌, ◌≢◌, ℕ, ◌+◌, ◌-◌, ◌*◌, ◌<◌, ◌↔◌, ◌⊎◌, ◌==◌, nat_lt, if◌then◌else◌, IsTrue, List, [], ◌∷◌, ◌++◌, length, slice_get, Option, Some, None}
+use Rattle.std.specs.Prelude.{◌≡◌, ◌≢◌, ℕ, ◌+◌, ◌*◌, ◌<◌, ◌↔◌, ◌⊎◌, ◌==◌, nat_lt, IsTrue, List, [], ◌∷◌, ◌++◌, length, slice_get, Option, Some, None}
 use Rattle.std.specs.List.{filter}
 use Rattle.std.specs.HashMap.{HashMap}
 use Rattle.std.specs.Global.{Vec}
 use Rattle.grammar_data.specs.declared.rule.Sym.{Sym}
-use Rattle.grammar_data.specs.declared.rule.Sym.TheVariants.{Token, Name}
 use Rattle.grammar_data.specs.Grammar.{Grammar}
 use Rattle.grammar_data.specs.TokenSet.{IsTokenSet, has_token}
-use Rattle.item_theory.specs.Items.{Item, IsValid, IsViable}
+use Rattle.item_theory.specs.Items.{Item}
 use Rattle.item_theory.specs.Chains.{Closure}
-use Rattle.item_theory.specs.LeadingWords.{AreStates}
 use Rattle.item_theory.specs.Search.{IsSearchedTo}
-use Rattle.item_theory.specs.Collections.{IsStateOf}
-use Rattle.item_sets.specs.declared.entry.Entry.{Entry}
-use Rattle.item_sets.specs.Entries.{entries_have, AreEntries}
+use Rattle.collection_data.specs.declared.entry.Entry.{Entry}
+use Rattle.collection_data.specs.Entries.{entries_have, AreEntries}
+use Rattle.collection_data.specs.Rows.{symbol_at, AreRowsOf, AreAllRowsOf}
 use Rattle.item_sets.specs.Layout.{IsClosureOf}
 use Rattle.item_sets.specs.Successors.{key_of}
 use Rattle.item_sets.specs.Found.{state_at}
@@ -48,40 +46,18 @@ abbrev pub IsStepFound : Grammar → List Entry → List (List Entry) → List (
 IsStepFound g kernel old new None = (kernel ≡ []) × (new ≡ old)
 IsStepFound g kernel old new (Some q) = (kernel ≢ []) × IsFoundOrAdded g kernel old new q
 
--- the symbol of a column; behind the last token's column that of the first name
-abbrev pub symbol_at : Grammar → ℕ → Sym
-symbol_at g column = (if nat_lt column g.tokens then Token column else Name (column - g.tokens))
-
--- what a step says of the list with the symbol added
-abbrev pub IsStepOf : Grammar → List (List Sym) → List Sym → Option ℕ → Type 0
-IsStepOf g words xs None = ¬ (IsViable g xs)
-IsStepOf g words xs (Some p) = IsStateOf g words p xs
-
--- the states are those of the words, and each step so far is that from its row's state along its column's symbol
-pub record AreTablesOf (g : Grammar) (words : List (List Sym)) (states : List (List Entry)) (steps : List (Option ℕ)) : Type 0 where
-  pub count : length words ≡ length states
-  pub items : (q : ℕ) (xs : List Sym) (entries : List Entry) → slice_get words q ≡ Some xs → slice_get states q ≡ Some entries → (i : Item) → IsTrue (entries_have entries i) ↔ IsValid g xs i
-  pub along : (q column : ℕ) (xs : List Sym) (o : Option ℕ) → column < g.tokens + g.names → slice_get steps (q * (g.tokens + g.names) + column) ≡ Some o → slice_get words q ≡ Some xs → IsStepOf g words (xs ++ symbol_at g column ∷ []) o
-
 -- the search stands at a state and a column
 pub record IsSearchAt (g : Grammar) (states : List (List Entry)) (steps : List (Option ℕ)) (p column : ℕ) : Type 0 where
   pub words : List (List Sym)
   pub top : List Sym
   pub searched : IsSearchedTo g words p top (symbol_at g column)
-  pub tables : AreTablesOf g words states steps
+  pub rows : AreRowsOf g words states steps
   pub size : length steps ≡ p * (g.tokens + g.names) + column
-
--- all states and all steps are found
-pub record IsSearchedAll (g : Grammar) (states : List (List Entry)) (steps : List (Option ℕ)) : Type 0 where
-  pub words : List (List Sym)
-  pub are_states : AreStates g words
-  pub tables : AreTablesOf g words states steps
-  pub size : length steps ≡ length states * (g.tokens + g.names)
 
 -- before a state the search stands at its first column, and after the last one it is at its end
 pub record IsSearchBefore (g : Grammar) (states : List (List Entry)) (steps : List (Option ℕ)) (p : ℕ) : Type 0 where
   pub within : p < length states → IsSearchAt g states steps p 0
-  pub end : p ≡ length states → IsSearchedAll g states steps
+  pub end : p ≡ length states → AreAllRowsOf g states steps
 
 -- the entry is that of the augmented item with the dot in front
 pub record IsFirstEntry (g : Grammar) (e : Entry) : Type 0 where

@@ -10,7 +10,7 @@ use Rattle.grammar_theory.specs.EmptyNames.{IsNullable}
 use Rattle.grammar_theory.specs.FirstTokens.{IsFirst, IsFirstBy}
 use Rattle.first_sets.specs.NameFacts.{NameFacts, first_set_in, nullable_in}
 use Rattle.item_theory.specs.Items.{all_rules}
-use Rattle.item_sets.specs.Tables.{column_of}
+use Rattle.collection_data.specs.Collection.{column_of}
 use Rattle.item_sets.specs.declared.spot.Spot.{Spot}
 
 -- the set has the tokens that are first in the symbols, by what is known of the names, and the mark says whether all of

@@ -2,7 +2,7 @@
 use Rattle.std.specs.Prelude.{◌≡◌, ℕ, ◌+◌, ◌<◌, ◌==◌, if◌then◌else◌, List, [], ◌∷◌, ◌++◌, length, slice_get, slice_index_or, slice_set, Option, Some, None}
 use Rattle.std.specs.Option.{option_and_then}
 use Rattle.std.specs.List.{filter_map}
-use Rattle.item_sets.specs.declared.entry.Entry.{Entry}
+use Rattle.collection_data.specs.declared.entry.Entry.{Entry}
 use Rattle.item_sets.specs.declared.spot.Spot.{Spot}
 
 -- the entry with the dot moved over the spot's symbol, if that stands in the column

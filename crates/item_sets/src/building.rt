@@ -5,16 +5,16 @@ ghost use Rattle.first_sets.specs.NameFacts.{AreFirsts};
 ghost use Rattle.item_theory.specs.Collections.{HasMoreStates};
 ghost use Rattle.item_sets.specs.Closing.{IsSetting};
 ghost use Rattle.item_sets.specs.Searching.{FindsStates, IsFirstEntry, IsSearchAt, IsSearchBefore, IsStateSet};
-ghost use Rattle.item_sets.specs.Tables.{IsCollectionOf};
+ghost use Rattle.collection_data.specs.Collection.{IsCollectionOf};
 
 use crate::collection::Collection;
-use crate::entry::Entry;
 use crate::fault::CollectFault;
 use crate::found::note;
 use crate::layout::closure;
 use crate::states::{States, step_to};
 use crate::successors::successors;
 use crate::table::Table;
+use collection_data::Entry;
 use first_sets::Firsts;
 use lr_base::{Grammar, RuleId, StateId, TokenSet};
 use std::alloc::{AllocError, Global};

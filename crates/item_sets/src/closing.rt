@@ -1,12 +1,12 @@
 ghost use Rattle.std.specs.Prelude.{◌≡◌, ℕ, ◌<◌, [], ◌∷◌, length, slice_get, slice_index_or, All, IfOk};
 ghost use Rattle.std.specs.Option.{option_to_list};
 ghost use Rattle.grammar_data.specs.TokenSet.{IsTokenSet, has_token};
-ghost use Rattle.item_sets.specs.Entries.{AreEntries};
+ghost use Rattle.collection_data.specs.Entries.{AreEntries};
 ghost use Rattle.item_sets.specs.Closing.{IsClosing, IsJoined, IsNameWithin, IsRowOpened, IsSetting, carries};
 
-use crate::entry::Entry;
 use crate::spot::Spot;
 use crate::table::Table;
+use collection_data::Entry;
 use lr_base::{Grammar, NameId, Sym, TokenSet};
 use std::alloc::{AllocError, Global};
 

@@ -1,7 +1,8 @@
 ghost use Rattle.std.specs.Prelude.{◌≡◌, ◌<◌, ◌≤◌, ◌+◌, ◌*◌, IfSome, length};
-ghost use Rattle.item_sets.specs.Tables.{column_of, items_in, state_count, step_in};
+ghost use Rattle.collection_data.specs.Collection.{column_of, items_in, state_count, step_in};
 
-use crate::entry::{Entry, ItemSet};
+use crate::item_set::ItemSet;
+use collection_data::Entry;
 use grammar_data::{StateId, Sym};
 use std::marker::Model;
 
@@ -16,9 +17,9 @@ pub struct Collection {
 
 impl Model for Collection {
     ghost use Rattle.std.specs.Prelude.{◌≡◌, ◌<◌, ◌≤◌, ◌+◌, ◌*◌, length};
-    ghost use Rattle.item_sets.specs.Tables.{Tables as Parts};
+    ghost use Rattle.collection_data.specs.Collection.{CollectionParts};
 
-    ghost Value = { Parts };
+    ghost Value = { CollectionParts };
 
     ghost view = { λ s. record { tokens = s.tokens; names = s.names; states = s.states.items; steps = s.steps.items } };
 

@@ -1,11 +1,11 @@
 ghost use Rattle.std.specs.Prelude.{◌≡◌, ℕ, List, if◌then◌else◌, All, IfOk, Some};
 ghost use Rattle.std.specs.Global.{Vec as Keys};
 ghost use Rattle.grammar_data.specs.TokenSet.{IsTokenSet};
-ghost use Rattle.item_sets.specs.declared.entry.Entry.{Entry as Lookaheads};
+ghost use Rattle.collection_data.specs.declared.entry.Entry.{Entry as Lookaheads};
 ghost use Rattle.item_sets.specs.Successors.{key_of};
 ghost use Rattle.item_sets.specs.Found.{same_key, state_at};
 
-use crate::entry::Entry;
+use collection_data::Entry;
 use lr_base::StateId;
 use std::alloc::{AllocError, Global};
 use std::collections::HashMap;

@@ -4,8 +4,9 @@ ghost use Rattle.item_sets.specs.Closing.{IsClosing, IsSetting};
 ghost use Rattle.item_sets.specs.Layout.{IsClosureOf, IsFrontLaid, IsKernel, IsLaidOut, IsMovedLaid};
 
 use crate::closing::close;
-use crate::entry::{Entry, ItemSet};
+use crate::item_set::ItemSet;
 use crate::table::Table;
+use collection_data::Entry;
 use lr_base::{Grammar, RuleId, TokenSet};
 use std::alloc::{AllocError, Global};
 

@@ -4,10 +4,9 @@
 mod building;
 mod closing;
 mod collection;
-mod entry;
 mod fault;
 mod found;
-mod laws;
+mod item_set;
 mod layout;
 mod spot;
 mod states;
@@ -16,6 +15,5 @@ mod table;
 
 pub use building::collect;
 pub use collection::Collection;
-pub use entry::Entry;
+pub use collection_data::Entry;
 pub use fault::CollectFault;
-pub use laws::{one_collection_law, table_laws};

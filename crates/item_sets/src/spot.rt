@@ -1,5 +1,5 @@
 ghost use Rattle.std.specs.Prelude.{◌≡◌, ◌<◌, ◌≤◌, ◌+◌, Some, All, IfOk, length};
-ghost use Rattle.item_sets.specs.Tables.{column_of};
+ghost use Rattle.collection_data.specs.Collection.{column_of};
 ghost use Rattle.lr_base.specs.IsGrammar.{IsSymbolOf};
 ghost use Rattle.grammar_data.specs.TokenSet.{IsTokenSet};
 ghost use Rattle.first_sets.specs.NameFacts.{AreFirsts, names_in};

@@ -1,15 +1,16 @@
 ghost use Rattle.std.specs.Prelude.{◌≡◌, ◌≢◌, ℕ, ◌<◌, ◌≤◌, [], List, Some, length, slice_get, slice_index_or, All, IfOk, IfErr};
-ghost use Rattle.item_sets.specs.declared.entry.Entry.{Entry as Lookaheads};
+ghost use Rattle.collection_data.specs.declared.entry.Entry.{Entry as Lookaheads};
 ghost use Rattle.item_sets.specs.Closing.{IsSetting};
 ghost use Rattle.item_sets.specs.Layout.{IsKernel};
 ghost use Rattle.item_sets.specs.Successors.{key_of};
 ghost use Rattle.item_sets.specs.Searching.{FindsStates, IsFoundOrAdded, IsNewKernel, IsStateSet, IsStepFound};
 
-use crate::entry::{Entry, ItemSet};
 use crate::fault::CollectFault;
 use crate::found::{find, key, note};
+use crate::item_set::ItemSet;
 use crate::layout::closure;
 use crate::table::Table;
+use collection_data::Entry;
 use lr_base::{Grammar, StateId};
 use std::alloc::Global;
 use std::collections::HashMap;

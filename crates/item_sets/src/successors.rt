@@ -1,10 +1,11 @@
 ghost use Rattle.std.specs.Prelude.{◌≡◌, ◌<◌, ◌≤◌, List, [], length, slice_get, slice_index_or, All, IfOk, replicate};
-ghost use Rattle.item_sets.specs.declared.entry.Entry.{Entry as Lookaheads};
+ghost use Rattle.collection_data.specs.declared.entry.Entry.{Entry as Lookaheads};
 ghost use Rattle.item_sets.specs.declared.spot.Spot.{Spot as Place};
 ghost use Rattle.item_sets.specs.Successors.{AreSuccessors, IsPushed};
 
-use crate::entry::{Entry, ItemSet};
+use crate::item_set::ItemSet;
 use crate::table::Table;
+use collection_data::Entry;
 use std::alloc::{AllocError, Global};
 
 /// So many sets with no entries.

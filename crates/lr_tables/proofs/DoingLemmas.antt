@@ -12,9 +12,9 @@ use Rattle.grammar_data.specs.TokenSet.{has_token}
 use Rattle.grammar_theory.specs.Rules.{IsRule, end_mark}
 use Rattle.item_theory.specs.Items.{Item, Dotted, Deed, Does, shifts, reduces, accepts, all_rules, Shift as to_shift, Reduce as to_reduce, Accept as to_accept}
 use Rattle.item_theory.proofs.ItemLemmas.{WhichRule, is_own, is_last, which_rule, dotted_once}
-use Rattle.item_sets.specs.declared.entry.Entry.{Entry}
-use Rattle.item_sets.specs.Entries.{IsEntry}
-use Rattle.item_sets.proofs.ClosureExact.{entry_parts, entry_from}
+use Rattle.collection_data.specs.declared.entry.Entry.{Entry}
+use Rattle.collection_data.specs.Entries.{IsEntry}
+use Rattle.collection_data.proofs.EntryLemmas.{entry_parts, entry_from}
 use Rattle.table_theory.specs.Deeds.{HasDeed}
 use Rattle.lr_tables.specs.declared.doing.Doing.{Doing}
 use Rattle.lr_tables.specs.declared.doing.Doing.TheVariants.{Nothing, Shift, Reduce, Accept}

@@ -7,10 +7,10 @@ use Rattle.grammar_data.specs.Grammar.{Grammar}
 use Rattle.grammar_data.specs.TokenSet.{IsTokenSet, has_token}
 use Rattle.item_theory.specs.Items.{Item, Deed, Does}
 use Rattle.item_theory.proofs.ItemLemmas.{item_same}
-use Rattle.item_sets.specs.declared.entry.Entry.{Entry}
-use Rattle.item_sets.specs.Entries.{entry_has, entries_have, IsEntryBefore, AreEntries}
-use Rattle.item_sets.proofs.ClosingLemmas.{past_words}
-use Rattle.item_sets.proofs.ClosureExact.{entry_parts, entry_from, have_at}
+use Rattle.collection_data.specs.declared.entry.Entry.{Entry}
+use Rattle.collection_data.specs.Entries.{entry_has, entries_have, IsEntryBefore, AreEntries}
+use Rattle.collection_data.proofs.TokenLemmas.{past_words}
+use Rattle.collection_data.proofs.EntryLemmas.{entry_parts, entry_from, have_at}
 use Rattle.table_theory.specs.Deeds.{IsItemBefore, IsItemUpTo, HasDeed}
 use Rattle.lr_tables.specs.declared.doing.Doing.{Doing}
 use Rattle.lr_tables.specs.declared.doing.Doing.TheVariants.{Nothing, Shift, Reduce, Accept}

@@ -10,11 +10,11 @@ use Rattle.grammar_theory.specs.Rules.{IsInRange, end_mark}
 use Rattle.item_theory.specs.Items.{Item, Deed, Does, shifts, reduces, accepts, Shift as to_shift, Reduce as to_reduce, Accept as to_accept}
 use Rattle.item_theory.specs.Chains.{moves}
 use Rattle.item_theory.specs.Collections.{IsStateOf}
-use Rattle.item_sets.specs.declared.entry.Entry.{Entry}
-use Rattle.item_sets.specs.Entries.{IsEntry}
-use Rattle.item_sets.specs.Tables.{Tables as Parts, IsCollectionOf, has_item, state_count, step_in}
-use Rattle.item_sets.proofs.ClosureExact.{entry_parts}
-use Rattle.item_sets.proofs.TableLaws.{no_step_law}
+use Rattle.collection_data.specs.declared.entry.Entry.{Entry}
+use Rattle.collection_data.specs.Entries.{IsEntry}
+use Rattle.collection_data.specs.Collection.{CollectionParts, IsCollectionOf, has_item, state_count, step_in}
+use Rattle.collection_data.proofs.EntryLemmas.{entry_parts}
+use Rattle.collection_data.proofs.TableLaws.{no_step_law}
 use Rattle.table_data.specs.declared.act.Act.{Act}
 use Rattle.table_data.specs.declared.act.Act.TheVariants.{Shift, Reduce, Accept, Error}
 use Rattle.table_data.specs.Tables.{Tables, act_in}
@@ -33,14 +33,14 @@ none_some e = cc
 -- ---- steps of a collection
 
 -- a step leads to a state
-pub step_within : (g : Grammar) (c : Parts) → IsCollectionOf g c → (q p : ℕ) (x : Sym) → q < state_count c → step_in c q x ≡ Some p → p < state_count c
+pub step_within : (g : Grammar) (c : CollectionParts) → IsCollectionOf g c → (q p : ℕ) (x : Sym) → q < state_count c → step_in c q x ≡ Some p → p < state_count c
 step_within g c is q p x less step = within ((is.collection.steps q p _ x (word_of g (state_count c) (has_item c) (step_in c) is.collection q less)).0 step)
   where
     within : {xs : List Sym} → IsStateOf g is.collection.words p xs → p < state_count c
     within (ys, at, same) = state_of g (state_count c) (has_item c) (step_in c) is.collection p ys at
 
 -- there is a step where an item shifts
-pub some_step : (g : Grammar) (c : Parts) → IsInRange g → IsCollectionOf g c → (q a : ℕ) → q < state_count c → HasDeed g (ItemsOf (has_item c) q) a to_shift → step_in c q (Token a) ≡ None → ⊥
+pub some_step : (g : Grammar) (c : CollectionParts) → IsInRange g → IsCollectionOf g c → (q a : ℕ) → q < state_count c → HasDeed g (ItemsOf (has_item c) q) a to_shift → step_in c q (Token a) ≡ None → ⊥
 some_step g c range is q a less (i, has, does) none = by_deed to_shift refl does
   where
     by_deed : (deed : Deed) → deed ≡ to_shift → Does g i a deed → ⊥
@@ -150,7 +150,7 @@ taken_differs act Accept deed is targets (some, other) = (to_accept, refl, λ sa
     by_act Error does differs same = cc
 taken_differs act Error deed is targets (some, other) = absurd (some refl)
 
-module _ (g : Grammar) (c : Parts) (e : Entry) (q : ℕ) (old : Tables) (steps : AreShiftsSteps c q old) where
+module _ (g : Grammar) (c : CollectionParts) (e : Entry) (q : ℕ) (old : Tables) (steps : AreShiftsSteps c q old) where
   in_the_way : (act : Act) (deed : Deed) (a : ℕ) → a ≤ end_mark g → deed_of act ≡ Some deed → HasDeed g (HasItem e) a deed → ((p : ℕ) → act ≡ Shift p → step_in c q (Token a) ≡ Some p) → IsTaken act (act_in old q a) → IsInTheWay g e q old
   in_the_way act deed a small is does target taken =
       let first = taken_differs act (act_in old q a) deed is (λ p r here there. same_Some r p (sym (steps a r there) ∙ target p here)) taken in

@@ -7,9 +7,9 @@ use Rattle.grammar_data.specs.declared.rule.Sym.TheVariants.{Name}
 use Rattle.grammar_data.specs.Grammar.{Grammar}
 use Rattle.grammar_theory.specs.Rules.{IsInRange, end_mark}
 use Rattle.item_theory.specs.Items.{Item, Deed, HasConflict}
-use Rattle.item_sets.specs.declared.entry.Entry.{Entry}
-use Rattle.item_sets.specs.Entries.{AreEntries}
-use Rattle.item_sets.specs.Tables.{Tables as Parts, IsCollectionOf, has_item, items_in, state_count, step_in}
+use Rattle.collection_data.specs.declared.entry.Entry.{Entry}
+use Rattle.collection_data.specs.Entries.{AreEntries}
+use Rattle.collection_data.specs.Collection.{CollectionParts, IsCollectionOf, has_item, items_in, state_count, step_in}
 use Rattle.table_data.specs.Tables.{Tables, act_in, goto_in}
 use Rattle.table_theory.specs.Deeds.{HasDeed}
 use Rattle.table_theory.specs.Clashes.{HasClash, ItemsOf}
@@ -34,7 +34,7 @@ err_of (Err e) p = p
 
 -- ---- the setting stays
 
-pub setting_acts : (g : Grammar) (c : Parts) (old new : Tables) → new ≡ record old { acts = new.acts } → IsSetting g c old → IsSetting g c new
+pub setting_acts : (g : Grammar) (c : CollectionParts) (old new : Tables) → new ≡ record old { acts = new.acts } → IsSetting g c old → IsSetting g c new
 setting_acts g c old new rest setting = record {
   range = setting.range;
   collection = setting.collection;
@@ -44,7 +44,7 @@ setting_acts g c old new rest setting = record {
   rules = ap (λ (t : Tables). t.rules) rest ∙ setting.rules;
 }
 
-pub setting_gotos : (g : Grammar) (c : Parts) (old new : Tables) → new ≡ record old { gotos = new.gotos } → IsSetting g c old → IsSetting g c new
+pub setting_gotos : (g : Grammar) (c : CollectionParts) (old new : Tables) → new ≡ record old { gotos = new.gotos } → IsSetting g c old → IsSetting g c new
 setting_gotos g c old new rest setting = record {
   range = setting.range;
   collection = setting.collection;
@@ -56,7 +56,7 @@ setting_gotos g c old new rest setting = record {
 
 -- ---- the entries of a state
 
-pub entries_of : (g : Grammar) (c : Parts) → IsCollectionOf g c → (q : ℕ) → q < state_count c → AreEntries g (items_in c q)
+pub entries_of : (g : Grammar) (c : CollectionParts) → IsCollectionOf g c → (q : ℕ) → q < state_count c → AreEntries g (items_in c q)
 entries_of g c is q less = is.entries q (items_in c q) (slice_get-get_or c.states q [] less)
 
 have_front : (es : List Entry) (k : ℕ) (i : Item) → k ≤ length es → HaveItem (take k es) i → HaveItem es i
@@ -70,7 +70,7 @@ have_front es k i within has = at (at_place (take k es) i has)
 
 -- ---- one row
 
-module _ (g : Grammar) (c : Parts) (es : List Entry) (q k : ℕ) (e : Entry) (less : k < length es) (here : e ≡ get_or es k e) (old : Tables) (row : IsRow g c (take k es) q old) where
+module _ (g : Grammar) (c : CollectionParts) (es : List Entry) (q k : ℕ) (e : Entry) (less : k < length es) (here : e ≡ get_or es k e) (old : Tables) (row : IsRow g c (take k es) q old) where
   of_more : {a : ℕ} {deed : Deed} → HasDeed g (HaveItem (take (k + 1) es)) a deed → HasDeed g (HaveItem (take k es)) a deed ⊎ HasDeed g (HasItem e) a deed
   of_more {a = a} {deed = deed} (i, has, does) = cases (have_more es k e i less here has)
     where
@@ -115,7 +115,7 @@ module _ (g : Grammar) (c : Parts) (es : List Entry) (q k : ℕ) (e : Entry) (le
       front (j, has_it, does_it) = (j, have_front es k j (omega arith) has_it, does_it)
 
 -- a whole row
-pub row_acts : (g : Grammar) (c : Parts) (q : ℕ) (t : Tables) → IsRow g c (items_in c q) q t → (a : ℕ) → a ≤ end_mark g → IsCanonicalAct g (has_item c) (step_in c) q a (act_in t q a)
+pub row_acts : (g : Grammar) (c : CollectionParts) (q : ℕ) (t : Tables) → IsRow g c (items_in c q) q t → (a : ℕ) → a ≤ end_mark g → IsCanonicalAct g (has_item c) (step_in c) q a (act_in t q a)
 row_acts g c q t row a small = record {
   deed = λ deed. row.deeds a deed small;
   target = λ p shift. row.shifts a p shift;
@@ -123,7 +123,7 @@ row_acts g c q t row a small = record {
 
 -- ---- row after row
 
-pub filled_none : (g : Grammar) (c : Parts) (t : Tables) → IsInRange g → IsCollectionOf g c → AreBlank g (state_count c) t → IsFilledTo g c 0 t
+pub filled_none : (g : Grammar) (c : CollectionParts) (t : Tables) → IsInRange g → IsCollectionOf g c → AreBlank g (state_count c) t → IsFilledTo g c 0 t
 filled_none g c t range collection blank = record {
   setting = record {
     range = range;
@@ -139,7 +139,7 @@ filled_none g c t range collection blank = record {
   empty = λ q n past. blank.gotos q n;
 }
 
-module _ (g : Grammar) (c : Parts) (k : ℕ) (t : Tables) (filled : IsFilledTo g c k t) where
+module _ (g : Grammar) (c : CollectionParts) (k : ℕ) (t : Tables) (filled : IsFilledTo g c k t) where
   module _ (mid new : Tables) (gotos : AreGotosSet g c k t mid) (acts : AreActsSet g c k mid new) where
     act_kept : (q a : ℕ) → q ≢ k → act_in new q a ≡ act_in t q a
     act_kept q a apart = acts.others q a apart ∙ ap (λ (s : Tables). act_in s q a) gotos.rest

@@ -2,7 +2,7 @@
 -- Source: Knuth, On the Translation of Languages from Left to Right, 1965; Aho and Ullman, The Theory of Parsing,
 -- Translation, and Compiling, volume 1, section 5.2.
 use Rattle.grammar_data.specs.Grammar.{Grammar}
-use Rattle.item_sets.specs.Tables.{Tables as Parts, has_item, state_count, step_in}
+use Rattle.collection_data.specs.Collection.{CollectionParts, has_item, state_count, step_in}
 use Rattle.table_data.specs.Tables.{Tables}
 use Rattle.table_theory.specs.Canonical.{AreCanonical}
 use Rattle.table_theory.specs.Conflicts.{IsFirstConflict}
@@ -10,10 +10,10 @@ use Rattle.lr_tables.specs.declared.fault.BuildFault.{BuildFault}
 use Rattle.lr_tables.specs.declared.fault.BuildFault.TheVariants.{Conflict, NoMemory}
 
 -- the tables are the canonical ones of the collection
-abbrev pub AreTablesOf : Grammar → Parts → Tables → Type 0
+abbrev pub AreTablesOf : Grammar → CollectionParts → Tables → Type 0
 AreTablesOf g c t = AreCanonical g (state_count c) (has_item c) (step_in c) t
 
 -- the conflict is the grammar's first
-abbrev pub IsFaultOf : Grammar → BuildFault → Type 0
-IsFaultOf g (Conflict c) = IsFirstConflict g c.state c.token c.first c.second
-IsFaultOf g NoMemory = Unit {0}
+abbrev pub IsBuildFault : Grammar → BuildFault → Type 0
+IsBuildFault g (Conflict c) = IsFirstConflict g c.state c.token c.first c.second
+IsBuildFault g NoMemory = Unit {0}

@@ -3,7 +3,7 @@ use Rattle.std.specs.Prelude.{◌≡◌, ◌≢◌, ℕ, ◌<◌, false, IsTrue,
 use Rattle.grammar_data.specs.Grammar.{Grammar}
 use Rattle.grammar_data.specs.TokenSet.{has_token}
 use Rattle.item_theory.specs.Items.{Item, Deed, Does}
-use Rattle.item_sets.specs.declared.entry.Entry.{Entry}
+use Rattle.collection_data.specs.declared.entry.Entry.{Entry}
 use Rattle.table_theory.specs.Deeds.{IsItemUpTo, IsLeastToAct, IsLeastToDiffer}
 use Rattle.lr_tables.specs.declared.doing.Doing.{Doing}
 use Rattle.lr_tables.specs.declared.doing.Doing.TheVariants.{Nothing, Shift, Reduce, Accept}

@@ -1,7 +1,7 @@
 ghost use Rattle.std.specs.Prelude.{IfErr, IfOk};
 ghost use Rattle.item_theory.specs.Items.{HasConflict};
-ghost use Rattle.item_sets.specs.Tables.{IsCollectionOf};
-ghost use Rattle.lr_tables.specs.Building.{AreTablesOf, IsFaultOf};
+ghost use Rattle.collection_data.specs.Collection.{IsCollectionOf};
+ghost use Rattle.lr_tables.specs.Building.{AreTablesOf, IsBuildFault};
 
 use crate::clashes::first_clash;
 use crate::fault::BuildFault;
@@ -23,7 +23,7 @@ pub fn build(
     requires { IsCollectionOf grammar.now collection.now }
     ensures tables { IfOk result (λ tables. AreTablesOf grammar.now collection.now tables) }
     ensures free { IfOk result (λ _. HasConflict grammar.now → ⊥) }
-    ensures conflict { IfErr result (λ fault. IsFaultOf grammar.now fault) }
+    ensures conflict { IfErr result (λ fault. IsBuildFault grammar.now fault) }
 {
     let mut tables = Tables::blank(alloc, grammar, collection.states())?;
     for number in 0..collection.states() {

@@ -1,12 +1,12 @@
 ghost use Rattle.std.specs.Prelude.{◌≡◌, ℕ, ◌<◌, ◌≤◌, IsTrue, MatchOption};
 ghost use Rattle.grammar_data.specs.TokenSet.{has_token};
-ghost use Rattle.item_sets.specs.Entries.{AreEntries};
+ghost use Rattle.collection_data.specs.Entries.{AreEntries};
 ghost use Rattle.table_theory.specs.Clashes.{HasClash};
 ghost use Rattle.lr_tables.specs.Doings.{HaveItem, IsOn};
 ghost use Rattle.lr_tables.specs.Clashing.{HasNoneBeside, IsClashOn, IsLeastAhead, IsLeastBeside, IsLeastToken};
 
-use crate::conflict::{Conflict, Item};
 use crate::doing::{Doing, acts, doing_of};
+use grammar_faults::{Conflict, Item};
 use item_sets::Entry;
 use lr_base::{Grammar, StateId, TokenId, TokenSet};
 

@@ -1,7 +1,7 @@
 ghost use Rattle.std.specs.Prelude.{◌↔◌, IsTrue};
 ghost use Rattle.table_theory.specs.Deeds.{HasDeed};
 ghost use Rattle.item_theory.specs.Items.{Deed};
-ghost use Rattle.item_sets.specs.Entries.{IsEntry};
+ghost use Rattle.collection_data.specs.Entries.{IsEntry};
 ghost use Rattle.lr_tables.specs.Doings.{HasItem, IsDoingIn, IsDoingOf};
 
 use item_sets::Entry;

@@ -1,4 +1,4 @@
-use crate::conflict::Conflict;
+use grammar_faults::Conflict;
 use lr_base::NoMemory;
 use thiserror::Error;
 

@@ -1,8 +1,8 @@
 ghost use Rattle.std.specs.Prelude.{◌≡◌, ℕ, ◌+◌, ◌<◌, ◌≤◌, None, OnErr, OnOk, length};
 ghost use Rattle.table_data.specs.declared.act.Act.TheVariants.{Error};
 ghost use Rattle.table_data.specs.Tables.{act_in, goto_in, IsActOf};
-ghost use Rattle.item_sets.specs.Entries.{IsEntry};
-ghost use Rattle.item_sets.specs.Tables.{state_count};
+ghost use Rattle.collection_data.specs.Entries.{IsEntry};
+ghost use Rattle.collection_data.specs.Collection.{state_count};
 ghost use Rattle.lr_tables.specs.Filling.{AreActsSet, AreGotosSet, AreItemsOf, AreReducesPut, AreShiftsSteps, HasClashWithin, IsEntryPut, IsInTheWay, IsPut, IsReduceTaken, IsSetting, IsTaken, only};
 
 use crate::doing::{Doing, doing_of};

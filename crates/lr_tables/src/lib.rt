@@ -3,11 +3,10 @@
 
 mod building;
 mod clashes;
-mod conflict;
 mod doing;
 mod fault;
 mod filling;
 
 pub use building::build;
-pub use conflict::{Conflict, Item};
 pub use fault::BuildFault;
+pub use grammar_faults::{Conflict, Item};

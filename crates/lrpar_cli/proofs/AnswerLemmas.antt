@@ -10,17 +10,17 @@ use Rattle.sheet_data.specs.Sheet.{Sheet}
 use Rattle.outline_theory.specs.Layout.{layout}
 use Rattle.grammar_theory.specs.Rules.{IsInRange}
 use Rattle.lr_base.specs.IsGrammar.{IsGrammar}
-use Rattle.item_sets.proofs.TableLemmas.{in_range}
-use Rattle.grammar_checks.specs.declared.fault.GrammarFault.{GrammarFault}
-use Rattle.grammar_checks.specs.declared.fault.GrammarFault.TheVariants.{NoMemory as spent}
-use Rattle.grammar_checks.specs.Building.{IsBuildable, IsFaultOf}
-use Rattle.grammar_checks.proofs.FaultLemmas.{one_fault, buildable}
+use Rattle.grammar_laws.proofs.RangeLemmas.{in_range}
+use Rattle.grammar_faults.specs.declared.fault.GrammarFault.{GrammarFault}
+use Rattle.grammar_faults.specs.declared.fault.GrammarFault.TheVariants.{NoMemory as spent}
+use Rattle.grammar_faults.specs.Building.{IsBuildable, IsFaultOf}
+use Rattle.grammar_faults.proofs.FaultLemmas.{one_fault, buildable}
 use Rattle.collection_laws.proofs.FaultLemmas.{some_fault}
 use Rattle.collection_laws.proofs.BuiltLemmas.{some_grammar}
-use Rattle.conflict_report.specs.TableTexts.{tables_text}
-use Rattle.conflict_report.proofs.SameTexts.{one_text}
+use Rattle.report_theory.specs.TableTexts.{tables_text}
+use Rattle.report_theory.proofs.SameTexts.{one_text}
 use Rattle.numbering_theory.proofs.SheetGrammar.{sheet_grammar}
-use Rattle.lrpar_cli.specs.FaultTexts.{fault_text, grammar_text}
+use Rattle.report_theory.specs.FaultTexts.{fault_text, grammar_text}
 use Rattle.lrpar_cli.proofs.FaultLemmas.{fault_once, accepted_once, not_refused, some_accepted_or_fault}
 use Rattle.sheet_theory.specs.ScanOrder.{Ranked, scan_order, scanning_of}
 use Rattle.sheet_theory.specs.TokenList.{token_list}

@@ -15,7 +15,7 @@ use Rattle.sheet_theory.specs.TokenList.{token_list, listed_tokens}
 use Rattle.lrpar_cli.specs.declared.status.Status.{Status}
 use Rattle.lrpar_cli.specs.declared.status.Status.TheVariants.{Done, Words, Sheet as refused_sheet, TextTooLong, ReadFault, WriteFault}
 use Rattle.lrpar_cli.specs.Answer.{Accepts, Answers, sheet_refused, text_too_long, tokens_listed, print_refused, grammar_refused, output_printed, IsPrinted, Ends, bad_words, by_command, text_limit, bad_words_text, long_text_text, read_fault_text, write_fault_text}
-use Rattle.grammar_checks.specs.Building.{IsBuildable}
+use Rattle.grammar_faults.specs.Building.{IsBuildable}
 use Rattle.lrpar_cli.proofs.FaultLemmas.{not_refused}
 use Rattle.lrpar_cli.specs.Endings.{Stands, AreRead, no_more_read, one_read, AreReadFor, IsDue, IsReadFault, due_said, fault_said, Fails, Fits, HaveRoom, AreServed, StopsEarly, IsSilent, Sinks, IsWriteFault, at_out, at_err, nothing_taken, some_taken, IsEnding, answered, read_fault, write_fault, no_memory, IsSpoken, spoken, unspoken, IsListing, listed_whole, listed_in_part, listed_cut, not_listed, IsWriting, written_whole, written_in_part, written_cut, not_written, IsPrinting}
 use Rattle.lrpar_cli.specs.Inputs.{IsRead, IsRefusedSheet, IsGrammarStop, IsLongText}

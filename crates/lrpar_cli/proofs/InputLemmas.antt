@@ -16,7 +16,7 @@ use Rattle.lrpar_cli.specs.declared.inputs.Stop.{Stop}
 use Rattle.lrpar_cli.specs.declared.inputs.Stop.TheVariants.{Sheet as sheet_stop, TextTooLong as long_stop, ReadFault as read_stop, NoMemory as memory_stop}
 use Rattle.lrpar_cli.specs.declared.inputs.Accepted.{Accepted}
 use Rattle.lrpar_cli.specs.Answer.{Accepts, HasTooManyStates, states_fault, of_reading, of_states, text_limit}
-use Rattle.lrpar_cli.specs.FaultTexts.{fault_text}
+use Rattle.report_theory.specs.FaultTexts.{fault_text}
 use Rattle.lrpar_cli.specs.Inputs.{IsRead, IsRefusal, IsRefusedBy, IsStatesStop, IsLongText, IsRefusedSheet}
 
 -- some bytes were read, and they are more than the limit

@@ -4,7 +4,7 @@ use Rattle.std.specs.List.{flat_map, range_with_len}
 use Rattle.std.specs.Io.KnownBytes.{Appends}
 use Rattle.std.proofs.KnownBytes.{Appends-nil}
 use Rattle.std.proofs.lemmas.List.Concat.{flat_map-append}
-use Rattle.conflict_report.proofs.RowLemmas.{next_line}
+use Rattle.report_theory.proofs.LineLemmas.{next_line}
 use Rattle.lrpar_cli.specs.Blocks.{Passes, AppendsFront}
 use Rattle.lrpar_cli.specs.Endings.{Fails}
 use Rattle.lrpar_cli.proofs.BlockLemmas.{fails_behind, all_passed}

@@ -12,18 +12,18 @@ use Rattle.outline_data.specs.declared.fault.SheetFault.{SheetFault}
 use Rattle.outline_data.specs.declared.fault.SheetFault.TheVariants.{Limit}
 use Rattle.outline_theory.specs.Layout.{layout}
 use Rattle.outline_theory.specs.Reading.{Reads, IsFirstFault}
-use Rattle.item_sets.specs.Tables.{Tables as StateTables}
+use Rattle.collection_data.specs.Collection.{CollectionParts}
 use Rattle.table_data.specs.Tables.{Tables as TableParts}
-use Rattle.grammar_checks.specs.declared.fault.GrammarFault.{GrammarFault}
-use Rattle.grammar_checks.specs.declared.fault.GrammarFault.TheVariants.{NoMemory as spent}
-use Rattle.grammar_checks.specs.Building.{IsBuildable, AreBuiltOf, IsFaultOf}
-use Rattle.conflict_report.specs.TableTexts.{tables_text}
+use Rattle.grammar_faults.specs.declared.fault.GrammarFault.{GrammarFault}
+use Rattle.grammar_faults.specs.declared.fault.GrammarFault.TheVariants.{NoMemory as spent}
+use Rattle.grammar_faults.specs.Building.{IsBuildable, AreBuiltOf, IsFaultOf}
+use Rattle.report_theory.specs.TableTexts.{tables_text}
 use Rattle.lrpar_cli.specs.declared.status.Status.{Status}
 use Rattle.lrpar_cli.specs.declared.status.Status.TheVariants.{Done, Words, Sheet as refused_sheet, TextTooLong}
 use Rattle.lrpar_cli.specs.declared.words.Output.{Output}
 use Rattle.lrpar_cli.specs.declared.words.Output.TheVariants.{Layout, Tables}
 use Rattle.lrpar_cli.specs.Words.{Command, Tokens, Print, HasForm, IsBadWords}
-use Rattle.lrpar_cli.specs.FaultTexts.{fault_text, grammar_text}
+use Rattle.report_theory.specs.FaultTexts.{fault_text, grammar_text}
 
 -- the most bytes that a text may have
 abbrev pub text_limit : ℕ
@@ -74,7 +74,7 @@ pub record HasNoTables (sheet : Sheet) (said : List ℕ) : Type 0 where
 
 -- the text of the grammar's canonical collection and tables
 pub record IsTablesText (sheet : Sheet) (printed : List ℕ) : Type 0 where
-  pub collection : StateTables
+  pub collection : CollectionParts
   pub tables : TableParts
   pub built : AreBuiltOf sheet.grammar collection tables
   pub is : printed ≡ tables_text sheet collection tables

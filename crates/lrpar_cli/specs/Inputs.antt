@@ -9,7 +9,7 @@ use Rattle.lrpar_cli.specs.declared.inputs.Accepted.{Accepted}
 use Rattle.lrpar_cli.specs.declared.inputs.Stop.{Stop}
 use Rattle.lrpar_cli.specs.declared.inputs.Stop.TheVariants.{Sheet, TextTooLong, ReadFault, NoMemory}
 use Rattle.lrpar_cli.specs.Answer.{HasTooManyStates, states_fault, Refuses, HasNoTables, text_limit}
-use Rattle.lrpar_cli.specs.FaultTexts.{fault_text}
+use Rattle.report_theory.specs.FaultTexts.{fault_text}
 
 -- these bytes were read, where it is told what stands there
 abbrev pub IsRead : Option (List ℕ) → List ℕ → Type 0

@@ -1,6 +1,5 @@
 pub mod Codes
 pub mod Words
-pub mod FaultTexts
 pub mod Answer
 pub mod Blocks
 pub mod Inputs

@@ -1,7 +1,7 @@
 ghost use Rattle.std.specs.Prelude.{◌≡◌, ◌≢◌, ◌≤◌, ◌⊎◌, length, List, ℕ, map, string_bytes};
 ghost use Rattle.outline_theory.specs.Layout.{layout};
-ghost use Rattle.grammar_checks.specs.Building.{AreBuiltOf};
-ghost use Rattle.conflict_report.specs.TableTexts.{tables_text};
+ghost use Rattle.grammar_faults.specs.Building.{AreBuiltOf};
+ghost use Rattle.report_theory.specs.TableTexts.{tables_text};
 ghost use Rattle.lrpar_cli.specs.Answer.{text_limit};
 ghost use Rattle.lrpar_cli.specs.Endings.{IsEnding, IsListing, IsPrinting, IsWriting, IsSpoken, HaveRoom, AreServed, StopsEarly, IsSilent};
 ghost use Rattle.lrpar_cli.specs.Inputs.{IsReady};

@@ -1,17 +1,13 @@
 //! What is said of a sheet's fault.
 ghost use Rattle.std.specs.Prelude.{◌≡◌, ◌<◌, length, codes, IfOk};
-ghost use Rattle.first_sets.specs.declared.fault.UselessFault.{UselessFault as UselessName};
-ghost use Rattle.first_sets.specs.NameFaults.{IsDue};
-ghost use Rattle.grammar_checks.specs.Building.{IsFaultOf, IsShown};
-ghost use Rattle.conflict_report.specs.ItemTexts.{conflict_text as text_of_conflict};
-ghost use Rattle.lrpar_cli.specs.FaultTexts.{said_on, kind_name, limit_said, fault_text as text_of_fault, name_said, name_in, useless_text as text_of_useless, grammar_text as text_of_grammar};
+ghost use Rattle.grammar_faults.specs.Building.{IsFaultOf, IsShown};
+ghost use Rattle.report_theory.specs.ItemTexts.{conflict_text as text_of_conflict};
+ghost use Rattle.report_theory.specs.FaultTexts.{said_on, kind_name, limit_said, fault_text as text_of_fault, name_said, name_in, grammar_text as text_of_grammar};
 
 use crate::token_list::push_number;
 use conflict_report::conflict_text;
-use first_sets::UselessFault;
-use grammar_checks::GrammarFault;
+use grammar_faults::{Conflict, GrammarFault};
 use lr_base::{NameId, NoMemory};
-use lr_tables::Conflict;
 use sheet_reader::{LimitKind, Sheet, SheetFault};
 use std::alloc::{AllocError, Global};
 
@@ -102,36 +98,6 @@ fn name_bytes(sheet: &Sheet, name: NameId) -> &[u8]
     sheet.name(name)
 }
 
-/// What is said of a name that isn't reachable.
-fn unreachable_text(alloc: Global, sheet: &Sheet, name: NameId) -> Result<Vec<u8>, AllocError>
-    requires { name < sheet.now.grammar.names }
-    ensures { IfOk result (λ text. text.items ≡ text_of_useless sheet.now (UselessName.Unreachable name)) }
-{
-    of_name(alloc, 13, b": unreachable: ", name_bytes(sheet, name))
-}
-
-/// What is said of a useless name: one line, with the fault's number; nothing of want of memory.
-fn useless_text(alloc: Global, sheet: &Sheet, fault: UselessFault) -> Result<Vec<u8>, AllocError>
-    requires { IsDue sheet.now.grammar fault }
-    ensures { IfOk result (λ text. text.items ≡ text_of_useless sheet.now fault) }
-{
-    match fault {
-        UselessFault::Unproductive(name) => {
-            of_name(alloc, 12, b": unproductive: ", name_bytes(sheet, name))
-        }
-        UselessFault::Unreachable(name) => unreachable_text(alloc, sheet, name),
-        UselessFault::EmptyTooLarge(name) => {
-            of_name(
-                alloc,
-                14,
-                b": empty tree too large: ",
-                name_bytes(sheet, name),
-            )
-        }
-        UselessFault::NoMemory => Ok(Vec::new(alloc)),
-    }
-}
-
 /// What is said of a grammar's first conflict: a line, and its two items.
 fn conflict_said(alloc: Global, sheet: &Sheet, conflict: &Conflict) -> Result<Vec<u8>, NoMemory>
     requires { IsShown sheet.now.grammar conflict.now }
@@ -148,7 +114,24 @@ pub fn grammar_text(alloc: Global, sheet: &Sheet, fault: GrammarFault) -> Result
     ensures { IfOk result (λ text. text.items ≡ text_of_grammar sheet.now fault) }
 {
     match fault {
-        GrammarFault::Useless(fault) => Ok(useless_text(alloc, sheet, fault)?),
+        GrammarFault::Unproductive(name) => Ok(of_name(
+            alloc,
+            12,
+            b": unproductive: ",
+            name_bytes(sheet, name),
+        )?),
+        GrammarFault::Unreachable(name) => Ok(of_name(
+            alloc,
+            13,
+            b": unreachable: ",
+            name_bytes(sheet, name),
+        )?),
+        GrammarFault::EmptyTooLarge(name) => Ok(of_name(
+            alloc,
+            14,
+            b": empty tree too large: ",
+            name_bytes(sheet, name),
+        )?),
         GrammarFault::TooManyStates => Ok(Vec::from_slice(alloc, MANY_STATES)?),
         GrammarFault::Conflict(conflict) => conflict_said(alloc, sheet, &conflict),
         GrammarFault::NoMemory => Ok(Vec::new(alloc)),

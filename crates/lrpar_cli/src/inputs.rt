@@ -5,13 +5,15 @@ ghost use Rattle.scanning_theory.specs.Scan.{AreTokens};
 ghost use Rattle.sheet_theory.specs.ScanOrder.{scanning_of};
 ghost use Rattle.outline_data.specs.declared.fault.LimitKind.TheVariants.{SheetBytes};
 ghost use Rattle.outline_data.specs.declared.fault.SheetFault.TheVariants.{Limit};
-ghost use Rattle.grammar_checks.specs.Building.{IsBuilt, IsFaultOf};
+ghost use Rattle.grammar_checks.specs.Building.{IsBuilt};
+ghost use Rattle.grammar_faults.specs.Building.{IsFaultOf};
 ghost use Rattle.lrpar_cli.specs.Answer.{Accepts, HasTooManyStates, text_limit, states_fault};
-ghost use Rattle.lrpar_cli.specs.FaultTexts.{fault_text as text_of_fault, grammar_text as text_of_grammar};
+ghost use Rattle.report_theory.specs.FaultTexts.{fault_text as text_of_fault, grammar_text as text_of_grammar};
 ghost use Rattle.lrpar_cli.specs.Inputs.{IsReady, IsRefusal, IsRefusedBy, IsStatesStop, IsGrammarStop, IsRefusedSheet, IsLongText, IsRead};
 
 use crate::fault_texts::{fault_text, grammar_text};
-use grammar_checks::{Built, GrammarFault, build_grammar};
+use grammar_checks::{Built, build_grammar};
+use grammar_faults::GrammarFault;
 use grammar_data::Token;
 use line_lexer::{Lines, lex_lines};
 use lr_base::{NoMemory, ReadFault, SHEET_BYTES, Shelf, TEXT_BYTES, Text, read_all};

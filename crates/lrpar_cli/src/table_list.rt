@@ -2,8 +2,8 @@
 ghost use Rattle.std.specs.Prelude.{◌≡◌, ◌<◌, ◌≤◌, ◌++◌, OnErr, OnOk};
 ghost use Rattle.std.specs.Io.KnownBytes.{Appends};
 ghost use Rattle.sheet_theory.specs.Names.{token_names};
-ghost use Rattle.conflict_report.specs.Belonging.{BelongTo};
-ghost use Rattle.conflict_report.specs.TableTexts.{state_text, tables_text};
+ghost use Rattle.report_theory.specs.Belonging.{BelongTo};
+ghost use Rattle.report_theory.specs.TableTexts.{state_text, tables_text};
 ghost use Rattle.lrpar_cli.specs.Endings.{Fails};
 ghost use Rattle.lrpar_cli.specs.Blocks.{AppendsFront, Passes};
 

@@ -3,5 +3,7 @@
 #![tactic(auto)]
 
 mod act;
+mod limits;
 
 pub use act::Act;
+pub use limits::MOST_STATES;

@@ -1,6 +1,6 @@
 use Rattle.std.proofs.Common.{◌≡◌, [], ◌++◌, decimal, codes, rules, ap, ◌∙◌}
 use Rattle.std.specs.Prelude.{slice_get, unwrap_or}
-use Rattle.conflict_report.proofs.RowLemmas.{five_parts}
+use Rattle.report_theory.proofs.LineLemmas.{five_parts}
 use Rattle.conflict_report.proofs.items.push_conflict_line.Goals as goal
 
 pub returns : goal.returns

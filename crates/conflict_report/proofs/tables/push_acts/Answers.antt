@@ -1,7 +1,7 @@
 use Rattle.std.proofs.Common.{◌++◌, ap, ◌∙◌}
 use Rattle.table_data.specs.Tables.{act_in}
-use Rattle.conflict_report.specs.TableTexts.{act_line}
-use Rattle.conflict_report.proofs.RowLemmas.{next_line}
+use Rattle.report_theory.specs.TableTexts.{act_line}
+use Rattle.report_theory.proofs.LineLemmas.{next_line}
 use Rattle.conflict_report.proofs.tables.push_acts.Goals as goal
 
 pub loop-token-preserved : goal.loop-token-preserved

@@ -1,7 +1,7 @@
 use Rattle.std.proofs.Common.{◌≡◌, ◌++◌}
 use Rattle.std.specs.List.{flat_map, range_with_len}
 use Rattle.table_data.specs.Tables.{act_in}
-use Rattle.conflict_report.specs.TableTexts.{act_line}
+use Rattle.report_theory.specs.TableTexts.{act_line}
 use Rattle.conflict_report.proofs.tables.push_acts.Given as goal
 
 abbrev pub invariant-loop-token : goal.invariant-loop-token

@@ -1,7 +1,7 @@
 use Rattle.std.proofs.Common.{sym, ap, ◌∙◌, ◌++◌, [], slice_get, unwrap_or}
 use Rattle.grammar_data.specs.TokenSet.{has_token}
-use Rattle.conflict_report.specs.ItemTexts.{behind_space, token_text}
-use Rattle.conflict_report.proofs.RowLemmas.{next_word, same_words}
+use Rattle.report_theory.specs.ItemTexts.{behind_space, token_text}
+use Rattle.report_theory.proofs.LineLemmas.{next_word, same_words}
 use Rattle.conflict_report.proofs.tables.push_aheads.Goals as goal
 use Rattle.conflict_report.proofs.tables.push_aheads.Goals.{then-has+in_ok-push_word, else-has}
 

@@ -2,7 +2,7 @@ use Rattle.std.proofs.Common.{◌≡◌, ◌++◌, map}
 use Rattle.std.specs.Prelude.{filter}
 use Rattle.std.specs.List.{flat_map, range_with_len}
 use Rattle.grammar_data.specs.TokenSet.{has_token}
-use Rattle.conflict_report.specs.ItemTexts.{behind_space, token_text}
+use Rattle.report_theory.specs.ItemTexts.{behind_space, token_text}
 use Rattle.conflict_report.proofs.tables.push_aheads.Given as goal
 
 abbrev pub invariant-loop-token : goal.invariant-loop-token

@@ -1,5 +1,5 @@
 use Rattle.std.proofs.Common.{◌≡◌, ◌++◌, take}
-use Rattle.conflict_report.specs.TableTexts.{entry_lines}
+use Rattle.report_theory.specs.TableTexts.{entry_lines}
 use Rattle.conflict_report.proofs.tables.push_entries.Given as goal
 
 abbrev pub invariant-loop-entry : goal.invariant-loop-entry

@@ -1,4 +1,4 @@
-use Rattle.conflict_report.proofs.BelongingLemmas.{entry_dotted}
+use Rattle.report_theory.proofs.BelongingLemmas.{entry_dotted}
 use Rattle.conflict_report.proofs.tables.push_entry.Goals as goal
 
 pub push_rule-requires-clause-dotted : goal.push_rule-requires-clause-dotted

@@ -1,7 +1,7 @@
 use Rattle.std.proofs.Common.{◌++◌, ap, ◌∙◌}
 use Rattle.table_data.specs.Tables.{goto_in}
-use Rattle.conflict_report.specs.TableTexts.{goto_line}
-use Rattle.conflict_report.proofs.RowLemmas.{next_line}
+use Rattle.report_theory.specs.TableTexts.{goto_line}
+use Rattle.report_theory.proofs.LineLemmas.{next_line}
 use Rattle.conflict_report.proofs.tables.push_gotos.Goals as goal
 
 pub loop-name-preserved : goal.loop-name-preserved

@@ -1,7 +1,7 @@
 use Rattle.std.proofs.Common.{◌≡◌, ◌++◌}
 use Rattle.std.specs.List.{flat_map, range_with_len}
 use Rattle.table_data.specs.Tables.{goto_in}
-use Rattle.conflict_report.specs.TableTexts.{goto_line}
+use Rattle.report_theory.specs.TableTexts.{goto_line}
 use Rattle.conflict_report.proofs.tables.push_gotos.Given as goal
 
 abbrev pub invariant-loop-name : goal.invariant-loop-name

@@ -1,7 +1,7 @@
 use Rattle.std.proofs.Common.{◌≡◌, ◌++◌, ap, ◌∙◌, arith}
 use Rattle.std.specs.List.{flat_map, range_with_len}
-use Rattle.conflict_report.specs.TableTexts.{states_line, state_text, tables_text}
-use Rattle.conflict_report.proofs.RowLemmas.{next_line}
+use Rattle.report_theory.specs.TableTexts.{states_line, state_text, tables_text}
+use Rattle.report_theory.proofs.LineLemmas.{next_line}
 use Rattle.conflict_report.proofs.tables.tables_text.Goals as goal
 
 pub loop-state-preserved : goal.loop-state-preserved

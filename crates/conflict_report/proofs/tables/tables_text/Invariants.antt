@@ -1,6 +1,6 @@
 use Rattle.std.proofs.Common.{◌≡◌, ◌++◌}
 use Rattle.std.specs.List.{flat_map, range_with_len}
-use Rattle.conflict_report.specs.TableTexts.{states_line, state_text}
+use Rattle.report_theory.specs.TableTexts.{states_line, state_text}
 use Rattle.conflict_report.proofs.tables.tables_text.Given as goal
 
 abbrev pub invariant-loop-state : goal.invariant-loop-state

@@ -1,5 +1,5 @@
 use Rattle.std.proofs.Common.{◌≡◌, ◌++◌, take}
-use Rattle.conflict_report.specs.ItemTexts.{symbols_text}
+use Rattle.report_theory.specs.ItemTexts.{symbols_text}
 use Rattle.conflict_report.proofs.words.push_symbols.Given as goal
 
 abbrev pub invariant-loop-symbol : goal.invariant-loop-symbol

@@ -1,6 +1,6 @@
 use Rattle.std.proofs.Common.{◌≡◌, ◌≢◌, ℕ, ◌+◌, ◌<◌, List, [], length, get_or, slice_get, Option, Some, refl, sym, ap, subst, ◌∙◌, arith}
 use Rattle.std.proofs.lemmas.Option.{slice_get_read, slice_get_within}
-use Rattle.item_sets.specs.declared.entry.Entry.{Entry}
+use Rattle.collection_data.specs.declared.entry.Entry.{Entry}
 use Rattle.item_sets.specs.Successors.{moved_entries}
 use Rattle.item_sets.specs.Searching.{IsNewKernel, IsSearchAt, IsStepFound}
 use Rattle.item_sets.proofs.StateFinding.{set_at_state}

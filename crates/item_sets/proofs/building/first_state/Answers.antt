@@ -1,5 +1,5 @@
 use Rattle.std.proofs.Common.{◌≡◌, ◌++◌, ◌∷◌, List, [], All, sym, ap, subst, ◌∙◌}
-use Rattle.item_sets.specs.declared.entry.Entry.{Entry}
+use Rattle.collection_data.specs.declared.entry.Entry.{Entry}
 use Rattle.item_sets.specs.Searching.{FindsStates, IsSearchAt, IsStateSet}
 use Rattle.item_sets.proofs.StepLemmas.{search_first}
 use Rattle.item_sets.proofs.SettingLemmas.{first_kernel, first_only, first_set, first_finds}

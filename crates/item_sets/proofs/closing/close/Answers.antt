@@ -1,12 +1,13 @@
 use Rattle.std.proofs.Common.{◌≡◌, ℕ, ◌+◌, ◌++◌, ◌∷◌, List, [], take, All, Contains, IsTrue, sym, ap, subst, ◌∙◌, arith}
 use Rattle.std.proofs.lemmas.List.{take_more}
 use Rattle.std.proofs.lemmas.List.Elements.{All-get_or, Contains-push}
-use Rattle.item_sets.specs.declared.entry.Entry.{Entry}
+use Rattle.collection_data.specs.declared.entry.Entry.{Entry}
 use Rattle.item_sets.specs.declared.spot.Spot.{Spot}
-use Rattle.item_sets.specs.Entries.{IsEntry, entry_has}
+use Rattle.collection_data.specs.Entries.{IsEntry, entry_has}
 use Rattle.item_sets.specs.Closing.{IsNameWithin, IsClosing}
 use Rattle.item_sets.proofs.ClosingLemmas.{rows_within, openings_within}
-use Rattle.item_sets.proofs.ClosureExact.{have_at, closing_seed, closing_name}
+use Rattle.collection_data.proofs.EntryLemmas.{have_at}
+use Rattle.item_sets.proofs.ClosureExact.{closing_seed, closing_name}
 use Rattle.item_sets.proofs.closing.close.Goals as goal
 
 pub open_behind-requires-clause-within : goal.open_behind-requires-clause-within

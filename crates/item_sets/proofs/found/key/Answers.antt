@@ -1,8 +1,8 @@
 use Rattle.std.proofs.Common.{◌≡◌, ◌+◌, ◌++◌, ◌∷◌, List, ℕ, [], take, sym, ap, ◌∙◌}
 use Rattle.std.proofs.lemmas.List.{take_more}
-use Rattle.item_sets.specs.declared.entry.Entry.{Entry}
+use Rattle.collection_data.specs.declared.entry.Entry.{Entry}
 use Rattle.item_sets.specs.Successors.{key_of}
-use Rattle.item_sets.proofs.SameEntries.{key_pushed, key_joined}
+use Rattle.item_sets.proofs.KernelLemmas.{key_pushed, key_joined}
 use Rattle.item_sets.proofs.found.key.Goals as goal
 
 pub loop-entry-preserved : goal.loop-entry-preserved

@@ -1,6 +1,6 @@
 use Rattle.std.proofs.Common.{◌≡◌, ℕ, List, Some, if◌then◌else◌, length, All, sym, subst, arith}
 use Rattle.std.specs.Global.{Vec}
-use Rattle.item_sets.specs.declared.entry.Entry.{Entry}
+use Rattle.collection_data.specs.declared.entry.Entry.{Entry}
 use Rattle.item_sets.specs.Found.{same_key, state_at}
 use Rattle.item_sets.specs.Searching.{FindsStates, IsStateSet}
 use Rattle.item_sets.proofs.StateFinding.{sets_pushed, finds_pushed}

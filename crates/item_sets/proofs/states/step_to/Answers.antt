@@ -1,6 +1,6 @@
 use Rattle.std.proofs.Common.{◌==◌, List, length, ap, ◌∙◌}
 use Rattle.std.proofs.lemmas.Bool.{false≢true}
-use Rattle.item_sets.specs.declared.entry.Entry.{Entry}
+use Rattle.collection_data.specs.declared.entry.Entry.{Entry}
 use Rattle.item_sets.proofs.states.step_to.Goals as goal
 
 pub returns-in-Err-clause-many : goal.returns-in-Err-clause-many

@@ -1,8 +1,8 @@
 use Rattle.std.proofs.Common.{◌≡◌, ◌<◌, List, sym, subst, arith}
-use Rattle.item_sets.specs.declared.entry.Entry.{Entry}
-use Rattle.item_sets.specs.Entries.{AreEntries}
-use Rattle.item_sets.specs.Tables.{items_in, state_count}
-use Rattle.item_sets.proofs.TableLemmas.{in_range}
+use Rattle.collection_data.specs.declared.entry.Entry.{Entry}
+use Rattle.collection_data.specs.Entries.{AreEntries}
+use Rattle.collection_data.specs.Collection.{items_in, state_count}
+use Rattle.grammar_laws.proofs.RangeLemmas.{in_range}
 use Rattle.lr_machine.specs.IsTables.{AreBlank}
 use Rattle.table_theory.specs.Clashes.{HasClash}
 use Rattle.table_theory.specs.Conflicts.{IsFirstConflict}

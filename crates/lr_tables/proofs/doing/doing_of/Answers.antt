@@ -1,7 +1,7 @@
 use Rattle.std.proofs.Common.{◌≡◌, ◌<◌, ◌≤◌, suc, [], ◌∷◌, length, drop, refl, ap, ◌∙◌, arith}
 use Rattle.std.proofs.lemmas.List.{drop_all}
 use Rattle.grammar_data.specs.declared.rule.Sym.TheVariants.{Token, Name}
-use Rattle.item_sets.specs.declared.entry.Entry.{Entry}
+use Rattle.collection_data.specs.declared.entry.Entry.{Entry}
 use Rattle.lr_tables.proofs.DoingLemmas.{doing_shift, doing_nothing, doing_reduce, doing_accept, augmented_right, own_right, own_rule_of, behind_at}
 use Rattle.lr_tables.proofs.doing.doing_of.Goals as goal
 

@@ -1,7 +1,7 @@
 use Rattle.std.proofs.Common.{◌≡◌, ◌<◌, List, length, take, get_or, ap, subst, ◌∙◌, arith}
 use Rattle.std.proofs.lemmas.List.{take_all}
-use Rattle.item_sets.specs.declared.entry.Entry.{Entry}
-use Rattle.item_sets.specs.Tables.{items_in}
+use Rattle.collection_data.specs.declared.entry.Entry.{Entry}
+use Rattle.collection_data.specs.Collection.{items_in}
 use Rattle.table_data.specs.Tables.{Tables}
 use Rattle.lr_tables.specs.Filling.{HasClashWithin, IsRow}
 use Rattle.lr_tables.proofs.RowLemmas.{row_more, row_clash, row_acts, err_of}

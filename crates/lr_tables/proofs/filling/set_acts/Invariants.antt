@@ -1,5 +1,5 @@
 use Rattle.std.proofs.Common.{◌≡◌, ◌≢◌, ℕ, take}
-use Rattle.item_sets.specs.Tables.{items_in}
+use Rattle.collection_data.specs.Collection.{items_in}
 use Rattle.table_data.specs.Tables.{act_in}
 use Rattle.lr_tables.specs.Filling.{IsRow}
 use Rattle.lr_tables.proofs.filling.set_acts.Given as goal

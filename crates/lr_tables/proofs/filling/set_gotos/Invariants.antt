@@ -1,6 +1,6 @@
 use Rattle.std.proofs.Common.{◌≡◌, ◌≢◌, ℕ, ◌<◌, ◌≤◌, None}
 use Rattle.grammar_data.specs.declared.rule.Sym.TheVariants.{Name}
-use Rattle.item_sets.specs.Tables.{step_in}
+use Rattle.collection_data.specs.Collection.{step_in}
 use Rattle.table_data.specs.Tables.{goto_in}
 use Rattle.lr_tables.proofs.filling.set_gotos.Given as goal
 

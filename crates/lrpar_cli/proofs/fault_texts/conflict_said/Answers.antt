@@ -1,5 +1,5 @@
-use Rattle.item_sets.proofs.TableLemmas.{in_range}
-use Rattle.conflict_report.proofs.BelongingLemmas.{first_conflict}
+use Rattle.grammar_laws.proofs.RangeLemmas.{in_range}
+use Rattle.report_theory.proofs.BelongingLemmas.{first_conflict}
 use Rattle.lrpar_cli.proofs.fault_texts.conflict_said.Goals as goal
 
 pub conflict_text-requires : goal.conflict_text-requires

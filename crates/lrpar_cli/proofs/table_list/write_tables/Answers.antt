@@ -1,5 +1,5 @@
 use Rattle.std.proofs.Common.{◌≡◌, rules, arith}
-use Rattle.conflict_report.specs.TableTexts.{state_text, states_line, tables_text}
+use Rattle.report_theory.specs.TableTexts.{state_text, states_line, tables_text}
 use Rattle.lrpar_cli.proofs.BlockLemmas.{passes_both, fails_behind, front_behind}
 use Rattle.lrpar_cli.proofs.TableListLemmas.{one_state, around_state, last_failed, last_passed}
 use Rattle.lrpar_cli.proofs.table_list.write_tables.Goals as goal

@@ -1,5 +1,5 @@
 use Rattle.std.proofs.Common.{◌≡◌, ◌≤◌, []}
-use Rattle.conflict_report.specs.TableTexts.{state_text, states_line}
+use Rattle.report_theory.specs.TableTexts.{state_text, states_line}
 use Rattle.lrpar_cli.specs.Blocks.{Passes}
 use Rattle.lrpar_cli.proofs.TableListLemmas.{so_far}
 use Rattle.lrpar_cli.proofs.table_list.write_tables.Given as goal

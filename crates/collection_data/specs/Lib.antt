@@ -1,0 +1,3 @@
+pub mod Entries
+pub mod Collection
+pub mod Rows

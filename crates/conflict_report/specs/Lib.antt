@@ -1,4 +1,0 @@
-pub mod ItemTexts
-pub mod TableTexts
-pub mod Belonging
-pub mod SameTexts

@@ -1,7 +1,0 @@
-ghost use Rattle.grammar_checks.specs.Building.{OneFaultLaw, BuildableLaw};
-
-/// A grammar has one first fault at most, and none where it has tables.
-pub fn grammar_fault_laws()
-    ensures one { OneFaultLaw }
-    ensures buildable { BuildableLaw }
-{}
