@@ -1,0 +1,4 @@
+pub mod SheetLemmas
+pub mod InputLemmas
+pub mod WorkLemmas
+pub mod AnswerLemmas

@@ -1,0 +1,6 @@
+pub mod Codes
+pub mod Tasks
+pub mod Sheets
+pub mod Work
+pub mod Answers
+pub mod Laws

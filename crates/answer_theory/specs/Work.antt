@@ -1,0 +1,35 @@
+-- What a task answers where its sheet is accepted and no input is too long: one case a task.
+use Rattle.std.specs.Prelude.{◌≡◌, ℕ, List, [], ◌∷◌}
+use Rattle.grammar_data.specs.declared.token.Token.{Token}
+use Rattle.scanning_theory.specs.Scan.{AreTokens}
+use Rattle.sheet_data.specs.Sheet.{Sheet}
+use Rattle.sheet_theory.specs.ScanOrder.{scanning_of}
+use Rattle.sheet_theory.specs.TokenList.{token_list}
+use Rattle.outline_theory.specs.Layout.{layout}
+use Rattle.collection_data.specs.Collection.{CollectionParts}
+use Rattle.table_data.specs.Tables.{Tables as TableParts}
+use Rattle.grammar_faults.specs.Building.{AreBuiltOf}
+use Rattle.report_theory.specs.TableTexts.{tables_text}
+use Rattle.answer_theory.specs.declared.status.Status.{Status}
+use Rattle.answer_theory.specs.declared.status.Status.TheVariants.{Done}
+use Rattle.answer_theory.specs.declared.task.Task.{Task}
+use Rattle.answer_theory.specs.declared.task.Task.TheVariants.{Tokens, Check, Tables}
+
+-- the list of the text's tokens
+pub record IsListOf (sheet : Sheet) (text listed : List ℕ) : Type 0 where
+  pub tokens : List Token
+  pub are : AreTokens (scanning_of sheet) text tokens
+  pub is : listed ≡ token_list sheet text tokens
+
+-- the text of the canonical collection and tables of the sheet's grammar
+pub record IsTablesText (sheet : Sheet) (printed : List ℕ) : Type 0 where
+  pub collection : CollectionParts
+  pub tables : TableParts
+  pub built : AreBuiltOf sheet.grammar collection tables
+  pub is : printed ≡ tables_text sheet collection tables
+
+-- the status, and what is due to the output and to the error output
+pub data IsWork (sheet : Sheet) : Task → List (List ℕ) → Status → List ℕ → List ℕ → Type 0 where
+  tokens_listed : {text listed : List ℕ} → IsListOf sheet text listed → IsWork sheet Tokens (text ∷ []) Done listed []
+  layout_printed : {printed : List ℕ} → printed ≡ layout sheet → IsWork sheet Check [] Done printed []
+  tables_printed : {printed : List ℕ} → IsTablesText sheet printed → IsWork sheet Tables [] Done printed []

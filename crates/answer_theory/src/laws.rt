@@ -1,0 +1,12 @@
+ghost use Rattle.answer_theory.specs.Laws.{OneAnswerLaw, SomeAnswerLaw};
+
+/// The bytes that stand under the names of a task determine its answer: which of them have to be read, the status, and the bytes
+/// that both outputs take.
+pub fn one_answer_law()
+    ensures { OneAnswerLaw }
+{}
+
+/// Where there are bytes for each name that a task reads, it is refuted that it has no answer.
+pub fn some_answer_law()
+    ensures { SomeAnswerLaw }
+{}

@@ -1,0 +1,11 @@
+//! What the program answers: one relation between a task, the bytes that it had to read, its status, and the bytes that its output
+//! and its error output take; with the laws that there is one answer at most, and not none.
+#![tactic(auto)]
+
+mod laws;
+mod status;
+mod task;
+
+pub use laws::{one_answer_law, some_answer_law};
+pub use status::Status;
+pub use task::Task;
