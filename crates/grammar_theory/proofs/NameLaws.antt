@@ -8,12 +8,12 @@ use Rattle.grammar_theory.specs.Rules.{OnlyNames}
 use Rattle.grammar_theory.specs.Derivations.{Derives}
 use Rattle.grammar_theory.specs.Trees.{Tree, Forest, yield, yields, nodes, nodes_of, ids_of, IsTree, AreTrees, no_tree, tree_first}
 use Rattle.grammar_theory.specs.UsefulNames.{IsProductive, ProductiveTreeLaw, ProductiveRuleLaw, ProductiveTestLaw, ReachableLaw, ReachableTestLaw}
-use Rattle.grammar_theory.specs.EmptyNames.{IsNullable, Vanishes, EmptyTreeLaw, NullableSizeLaw, OneSizeLaw, NullableRuleLaw, NullableListLaw, NullableTestLaw, FirstRoundLaw, RoundLaw, NextRoundLaw, UnsizedLaw, SizeTableLaw, SizedLaw}
-use Rattle.grammar_theory.specs.FirstTokens.{FirstHas, FirstLaw, FollowsLaw, FoundPartsLaw, FirstRuleLaw, FirstTableLaw, IsFirst, IsFound}
+use Rattle.grammar_theory.specs.EmptyNames.{IsNullable, Vanishes, EmptyTreeLaw, NullableSizeLaw, OneSizeLaw, NullableRuleLaw, NullableListLaw, NullableTestLaw, FirstRoundLaw, RoundLaw, NextRoundLaw, UnsizedLaw}
+use Rattle.grammar_theory.specs.FirstTokens.{FirstHas, FirstOnlyLaw, FirstLaw, FollowsOnlyLaw, FollowsLaw, FoundPartsLaw, FirstRuleOnlyLaw, FirstRuleLaw, FirstTableLaw, IsFirst, IsFound}
 use Rattle.grammar_theory.proofs.DerivationLaws.{tree_law}
 use Rattle.grammar_theory.proofs.UsefulLemmas.{productive_rule, productive_by_rule, knows_productive, led_reachable, reachable_led, knows_reachable}
 use Rattle.grammar_theory.proofs.EmptyLemmas.{AreEmpty, are_empty, VanishesSome, vanishes_some, names_nullable, derives_nullable, nullable_rule, nullable_by_rule, knows_nullable, vanishes_of_derives, derives_of_vanishes, trees_of_vanishes, vanishes_of_trees}
-use Rattle.grammar_theory.proofs.SizeLemmas.{one_size, first_round, sized_next, next_sized, next_round, unsized_above, size_least, least_size, unsized_not_nullable, not_nullable_unsized}
+use Rattle.grammar_theory.proofs.SizeLemmas.{one_size, first_round, sized_next, next_sized, next_round, unsized_above}
 use Rattle.grammar_theory.proofs.FirstLemmas.{found_first, first_begins, found_following, found_follows, found_parts, found_of_first, found_of_end, first_rule, first_by_rule, knows_first}
 
 -- ---- productive and reachable names
@@ -95,19 +95,19 @@ next_round_law g k size next table round = next_round g k size next table round
 pub unsized_law : UnsizedLaw
 unsized_law g bound size table n k none d = unsized_above g bound size table n k none d
 
-pub size_table_law : SizeTableLaw
-size_table_law g size table n k = (λ e. size_least g size table n k e, λ h. least_size g size table n k h)
-
-pub sized_law : SizedLaw
-sized_law g size table n = (λ e. unsized_not_nullable g size table n e, λ no. not_nullable_unsized g size table n no (size n) refl)
-
 -- ---- first tokens
 
+pub first_only_law : FirstOnlyLaw
+first_only_law g xs b h = found_first g h.1 refl
+
 pub first_law : FirstLaw
-first_law g all xs below b = (λ h. found_first g h.1 refl, λ h. first_begins g all xs below b h)
+first_law g all xs below b = (λ h. first_only_law g xs b h, λ h. first_begins g all xs below b h)
+
+pub follows_only_law : FollowsOnlyLaw
+follows_only_law g xs a b h = found_following g xs a h.1 refl
 
 pub follows_law : FollowsLaw
-follows_law g all xs below a b = (λ h. found_following g xs a h.1 refl, λ h. found_follows g all xs below a b h)
+follows_law g all xs below a b = (λ h. follows_only_law g xs a b h, λ h. found_follows g all xs below a b h)
 
 found_of_parts : (g : Grammar) (xs : List Sym) (a b : ℕ) → IsFirst g xs b ⊎ (OnlyNames (IsNullable g) xs × (b ≡ a)) → IsFound g xs a b
 found_of_parts g xs a b (inl h) = found_of_first (FirstHas g) (IsNullable g) xs a b h
@@ -115,6 +115,9 @@ found_of_parts g xs a b (inr h) = found_of_end (FirstHas g) (IsNullable g) xs a 
 
 pub found_parts_law : FoundPartsLaw
 found_parts_law g xs a b = (λ h. found_parts (FirstHas g) (IsNullable g) xs a b h, λ h. found_of_parts g xs a b h)
+
+pub first_rule_only_law : FirstRuleOnlyLaw
+first_rule_only_law g n a h = first_rule g n a h
 
 pub first_rule_law : FirstRuleLaw
 first_rule_law g range all n a = (λ h. first_rule g n a h, λ r. first_by_rule g range all r.1 r.2 r.3)

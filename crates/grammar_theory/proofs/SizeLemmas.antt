@@ -5,7 +5,7 @@ use Rattle.grammar_data.specs.declared.rule.Sym.{Sym}
 use Rattle.grammar_data.specs.declared.rule.Sym.TheVariants.{Token, Name}
 use Rattle.grammar_data.specs.Grammar.{Rule, Grammar}
 use Rattle.grammar_theory.specs.Rules.{IsRule}
-use Rattle.grammar_theory.specs.EmptyNames.{IsNullable, Vanishes, no_symbol, name_gone, HasEmptySize, AddsUp, HasRightSide, IsSizedBelow, IsNextRound, IsSizeTable}
+use Rattle.grammar_theory.specs.EmptyNames.{IsNullable, Vanishes, no_symbol, name_gone, HasEmptySize, AddsUp, HasRightSide, IsSizedBelow, IsNextRound}
 use Rattle.grammar_theory.proofs.EmptyLemmas.{VanishesSome, vanishes_some, vanishes_of_derives, derives_of_vanishes}
 
 some_none : {k : ℕ} → ◌≡◌ {A = Option ℕ} (Some k) None → ⊥
@@ -129,47 +129,3 @@ next_round g k size next table round = record {
   below = λ n j is. (next_sound g k size next table n j (round.new n j is)).1;
   every = λ n j h below. next_every g k size next table round n j h (cases_lt j (suc k)) below;
 }
-
--- ---- a table that no rule improves
-
-module _ (g : Grammar) (size : ℕ → Option ℕ) (table : IsSizeTable g size) where
-  -- sizes that add up to no more than this
-  data AddsUpWithin (xs : List Sym) (k : ℕ) : Type 0 where
-    adds_up_within : (total : ℕ) → AddsUp size xs total → total ≤ k → AddsUpWithin xs k
-
-  within_name : {n r i j k : ℕ} {right xs : List Sym} → IsRule g.rules r n right → AddsUpWithin right i → AddsUpWithin xs j → k ≡ suc (i + j) → AddsUpWithin (Name n ∷ xs) k
-  within_name {n = n} {r = r} {right = right} rule (adds_up_within total sum le) (adds_up_within rest sums le_rest) at =
-      let own = table.closed n total (r, right, rule, sum) in
-      adds_up_within (own.0 + rest) (own.0, rest, own.1, sums, refl) (let small : own.0 ≤ suc total = own.2 in omega arith)
-
-  within : {xs : List Sym} {k : ℕ} → Vanishes g.rules xs k → AddsUpWithin xs k
-  within no_symbol = adds_up_within 0 refl (omega arith)
-  within (name_gone rule d rest at) = within_name rule (within d) (within rest) at
-
-  least_sized : {n k other : ℕ} → size n ≡ Some k → AddsUpWithin (Name n ∷ []) other → k ≤ other
-  least_sized is (adds_up_within total (here, rest, also, sum, at) le) = let e : here ≡ _ = some_same (sym also ∙ is) in omega arith
-
-  pub size_least : (n k : ℕ) → size n ≡ Some k → HasEmptySize g n k
-  size_least n k is = record { some = table.sound n k is; least = λ other e. least_sized is (within e) }
-
-  sized_of : {n k : ℕ} → HasEmptySize g n k → AddsUpWithin (Name n ∷ []) k → size n ≡ Some k
-  sized_of {n = n} {k = k} h (adds_up_within total (here, rest, is, sum, at) le) =
-      let more = h.least here (table.sound n here is) in
-      let e : here ≡ k = omega arith in
-      is ∙ ap Some e
-
-  pub least_size : (n k : ℕ) → HasEmptySize g n k → size n ≡ Some k
-  least_size n k h = sized_of h (within h.some)
-
-  none_gone : {n k : ℕ} → size n ≡ None → AddsUpWithin (Name n ∷ []) k → ⊥
-  none_gone none (adds_up_within total (here, rest, is, sum, at) le) = some_none (sym is ∙ none)
-
-  none_some : {n : ℕ} → size n ≡ None → VanishesSome g.rules (Name n ∷ []) → ⊥
-  none_some none (vanishes_some d) = none_gone none (within d)
-
-  pub unsized_not_nullable : (n : ℕ) → size n ≡ None → ¬ (IsNullable g n)
-  unsized_not_nullable n none null = none_some none (vanishes_of_derives null refl)
-
-  pub not_nullable_unsized : (n : ℕ) → ¬ (IsNullable g n) → (o : Option ℕ) → size n ≡ o → size n ≡ None
-  not_nullable_unsized n not_null None e = e
-  not_nullable_unsized n not_null (Some k) e = absurd (not_null (derives_of_vanishes (table.sound n k e)))

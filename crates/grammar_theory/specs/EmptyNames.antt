@@ -88,16 +88,3 @@ NextRoundLaw = (g : Grammar) (k : ℕ) (size next : ℕ → Option ℕ) → IsSi
 -- with all sizes below a bound, no empty tree of an unsized name has fewer inner nodes than the bound
 abbrev pub UnsizedLaw : Type 0
 UnsizedLaw = (g : Grammar) (bound : ℕ) (size : ℕ → Option ℕ) → IsSizedBelow g bound size → (n k : ℕ) → size n ≡ None → Vanishes g.rules (Name n ∷ []) k → bound ≤ k
-
--- a table of sizes of empty trees that no rule improves
-pub record IsSizeTable (g : Grammar) (size : ℕ → Option ℕ) : Type 0 where
-  pub sound : (n k : ℕ) → size n ≡ Some k → Vanishes g.rules (Name n ∷ []) k
-  pub closed : (n total : ℕ) → HasRightSide g size n total → (k : ℕ) × (size n ≡ Some k) × (k ≤ suc total)
-
--- such a table has exactly the empty sizes
-abbrev pub SizeTableLaw : Type 0
-SizeTableLaw = (g : Grammar) (size : ℕ → Option ℕ) → IsSizeTable g size → (n k : ℕ) → (size n ≡ Some k) ↔ HasEmptySize g n k
-
--- such a table has no size for exactly the names that aren't nullable
-abbrev pub SizedLaw : Type 0
-SizedLaw = (g : Grammar) (size : ℕ → Option ℕ) → IsSizeTable g size → (n : ℕ) → (size n ≡ None) ↔ (¬ (IsNullable g n))

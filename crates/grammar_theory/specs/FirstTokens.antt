@@ -37,11 +37,19 @@ IsFirst g xs b = IsFirstBy (FirstHas g) (IsNullable g) xs b
 abbrev pub IsFound : Grammar → List Sym → ℕ → ℕ → Type 0
 IsFound g xs a b = IsFoundBy (FirstHas g) (IsNullable g) xs a b
 
--- where all names are productive, symbols begin with a token exactly where it is found in them
+-- symbols begin with tokens alone that are found in them
+abbrev pub FirstOnlyLaw : Type 0
+FirstOnlyLaw = (g : Grammar) (xs : List Sym) (b : ℕ) → BeginsWith g.rules xs b → IsFirst g xs b
+
+-- where all names are productive, they begin with each such token
 abbrev pub FirstLaw : Type 0
 FirstLaw = (g : Grammar) → AllProductive g → (xs : List Sym) → NamesBelow g.names xs → (b : ℕ) → BeginsWith g.rules xs b ↔ IsFirst g xs b
 
--- where all names are productive, a token follows exactly where it is found in the symbols or behind them
+-- a token follows only where it is found in the symbols or behind them
+abbrev pub FollowsOnlyLaw : Type 0
+FollowsOnlyLaw = (g : Grammar) (xs : List Sym) (a b : ℕ) → Follows g xs a b → IsFound g xs a b
+
+-- where all names are productive, each such token follows
 abbrev pub FollowsLaw : Type 0
 FollowsLaw = (g : Grammar) → AllProductive g → (xs : List Sym) → NamesBelow g.names xs → (a b : ℕ) → Follows g xs a b ↔ IsFound g xs a b
 
@@ -49,7 +57,11 @@ FollowsLaw = (g : Grammar) → AllProductive g → (xs : List Sym) → NamesBelo
 abbrev pub FoundPartsLaw : Type 0
 FoundPartsLaw = (g : Grammar) (xs : List Sym) (a b : ℕ) → IsFound g xs a b ↔ (IsFirst g xs b ⊎ (OnlyNames (IsNullable g) xs × (b ≡ a)))
 
--- where all names are productive, a name begins with a token exactly where it is found in the right side of one of its rules
+-- a name begins with tokens alone that are found in the right side of one of its rules
+abbrev pub FirstRuleOnlyLaw : Type 0
+FirstRuleOnlyLaw = (g : Grammar) (n a : ℕ) → FirstHas g n a → (r : ℕ) × (right : List Sym) × IsRule g.rules r n right × IsFirst g right a
+
+-- where all names are productive, it begins with each such token
 abbrev pub FirstRuleLaw : Type 0
 FirstRuleLaw = (g : Grammar) → IsInRange g → AllProductive g → (n a : ℕ) → FirstHas g n a ↔ ((r : ℕ) × (right : List Sym) × IsRule g.rules r n right × IsFirst g right a)
 

@@ -6,8 +6,8 @@ ghost use Rattle.grammar_theory.specs.Derivations.{AppendLaw, SplitLaw, FoldLaw,
 ghost use Rattle.grammar_theory.specs.Trees.{TreesLaw, TreeLaw, SentenceLaw};
 ghost use Rattle.grammar_theory.specs.UsefulNames.{ProductiveTreeLaw, ProductiveRuleLaw, ProductiveTestLaw, ReachableLaw, ReachableTestLaw};
 ghost use Rattle.grammar_theory.specs.UselessNames.{OneUnproductiveLaw, OneUnreachableLaw, OneTooLargeLaw};
-ghost use Rattle.grammar_theory.specs.EmptyNames.{EmptyTreeLaw, NullableSizeLaw, OneSizeLaw, NullableRuleLaw, NullableListLaw, NullableTestLaw, FirstRoundLaw, RoundLaw, NextRoundLaw, UnsizedLaw, SizeTableLaw, SizedLaw};
-ghost use Rattle.grammar_theory.specs.FirstTokens.{FirstLaw, FollowsLaw, FoundPartsLaw, FirstRuleLaw, FirstTableLaw};
+ghost use Rattle.grammar_theory.specs.EmptyNames.{EmptyTreeLaw, NullableSizeLaw, OneSizeLaw, NullableRuleLaw, NullableListLaw, NullableTestLaw, FirstRoundLaw, RoundLaw, NextRoundLaw, UnsizedLaw};
+ghost use Rattle.grammar_theory.specs.FirstTokens.{FirstOnlyLaw, FirstLaw, FollowsOnlyLaw, FollowsLaw, FoundPartsLaw, FirstRuleOnlyLaw, FirstRuleLaw, FirstTableLaw};
 
 /// Derivations are joined, split and folded, and agree with steps.
 pub fn derivation_laws()
@@ -52,7 +52,7 @@ pub fn nullable_laws()
     ensures size { NullableSizeLaw }
 {}
 
-/// Empty sizes are those of empty trees, and found in rounds or by a table that no rule improves.
+/// Empty sizes are those of empty trees, and found in rounds.
 pub fn empty_size_laws()
     ensures tree { EmptyTreeLaw }
     ensures one { OneSizeLaw }
@@ -60,15 +60,16 @@ pub fn empty_size_laws()
     ensures round { RoundLaw }
     ensures next_round { NextRoundLaw }
     ensures none_below { UnsizedLaw }
-    ensures table { SizeTableLaw }
-    ensures sized { SizedLaw }
 {}
 
 /// First tokens are found by symbols and by rules, and known exactly by a closed table.
 pub fn first_token_laws()
+    ensures first_only { FirstOnlyLaw }
     ensures first { FirstLaw }
+    ensures follows_only { FollowsOnlyLaw }
     ensures follows { FollowsLaw }
     ensures found_parts { FoundPartsLaw }
+    ensures rule_only { FirstRuleOnlyLaw }
     ensures rule { FirstRuleLaw }
     ensures table { FirstTableLaw }
 {}

@@ -7,7 +7,7 @@ use Rattle.grammar_theory.specs.Rules.{IsInRange}
 use Rattle.item_theory.specs.Items.{Item, IsValid, IsViable, HaveSameItems}
 use Rattle.item_theory.specs.LeadingWords.{IsWordBefore, HasState, AreStates}
 use Rattle.item_theory.specs.Search.{walk}
-use Rattle.item_theory.specs.Collections.{IsStateOf, IsCollection, HasMoreStates, CollectionOnceLaw, CollectionWalkLaw, CollectionStopLaw, CollectionItemsLaw, MoreStatesLaw}
+use Rattle.item_theory.specs.Collections.{IsStateOf, IsCollection, HasMoreStates, CollectionOnceLaw, CollectionWalkLaw, CollectionViableLaw, CollectionStopLaw, CollectionItemsLaw, MoreStatesLaw}
 use Rattle.item_theory.proofs.SearchLemmas.{empty_leading}
 use Rattle.item_theory.proofs.StateLemmas.{same_items_refl, same_items_sym, same_items_trans, same_viable, same_step, viable_prefix, leading_once, place_once, leading_state, states_once, state_count}
 
@@ -95,10 +95,22 @@ module _ (g : Grammar) (range : IsInRange g) (states : ℕ) (has : ℕ → Item 
       let e = collection.count in
       (omega arith, λ i. (λ t. (items i).0 ((collection.items q zs at i).0 t), λ v. (collection.items q zs at i).1 ((items i).1 v)))
 
+  viable_walk : (xs : List Sym) → IsViable g xs → (q : ℕ) × (q < states) × (walk step (Some 0) xs ≡ Some q)
+  viable_walk xs viable =
+      let state = collection.are_states.every xs viable in
+      let here : IsAt state.0 xs = (state.1, state.2, state.3) in
+      (state.0, (items_at state.0 xs here).0, at_walk state.0 xs here (walk step (Some 0) xs) refl)
+
 pub collection_walk_law : CollectionWalkLaw
 collection_walk_law g range states has step collection xs q = (
   λ e. walk_at g range states has step collection xs [] 0 q (at_first g range states has step collection) e,
   λ here. at_walk g range states has step collection q xs here (walk step (Some 0) xs) refl,
+)
+
+pub collection_viable_law : CollectionViableLaw
+collection_viable_law g range states has step collection xs = (
+  λ viable. viable_walk g range states has step collection xs viable,
+  λ (q, inside, e). viable_at g range states has step collection q xs (walk_at g range states has step collection xs [] 0 q (at_first g range states has step collection) e),
 )
 
 pub collection_stop_law : CollectionStopLaw

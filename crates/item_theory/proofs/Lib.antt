@@ -3,9 +3,9 @@ pub mod ChainLemmas
 pub mod LeadLemmas
 pub mod ClosureLemmas
 pub mod RangeLemmas
+pub mod AugmentedLemmas
 pub mod OrderLemmas
 pub mod StateLemmas
-pub mod WalkLemmas
 pub mod SearchLemmas
 pub mod ItemLaws
 pub mod StateLaws

@@ -2,11 +2,10 @@
 use Rattle.std.proofs.Common.{◌≡◌, List, [], ◌∷◌, ◌++◌, Some, refl, subst, inl, inr, ◌⊎◌}
 use Rattle.grammar_data.specs.declared.rule.Sym.{Sym}
 use Rattle.item_theory.specs.LeadingWords.{IsSymBefore, IsWordBefore, TotalLaw, TransitiveLaw, IrreflexiveLaw, PushLaw, LeadingOnceLaw, StepLaw, SameStepLaw, PrefixLaw, StatesOnceLaw, StateCountLaw, LeadingStateLaw, ConflictStateLaw}
-use Rattle.item_theory.specs.Search.{NewWordLaw, SearchBeginLaw, SearchSkipLaw, SearchOldLaw, SearchNewLaw, SearchNamesLaw, SearchNextLaw, SearchEndLaw, WalkLaw, WalkStopLaw, walk}
+use Rattle.item_theory.specs.Search.{NewWordLaw, SearchBeginLaw, SearchOldLaw, SearchNewLaw, SearchNamesLaw, SearchNextLaw, SearchEndLaw}
 use Rattle.item_theory.proofs.OrderLemmas.{word_total, word_transitive, word_irreflexive, word_push, word_push_last, word_pop}
 use Rattle.item_theory.proofs.StateLemmas.{step_of_viable, viable_of_step, same_step, viable_prefix, leading_once, states_once, state_count, leading_state, conflict_state}
-use Rattle.item_theory.proofs.SearchLemmas.{new_leading, search_begin, search_skip, search_old, search_new, search_names, search_next, search_end}
-use Rattle.item_theory.proofs.WalkLemmas.{holds_first, walked, walk_stopped, walk_none}
+use Rattle.item_theory.proofs.SearchLemmas.{new_leading, search_begin, search_old, search_new, search_names, search_next, search_end}
 
 -- ---- the order of words
 
@@ -60,9 +59,6 @@ new_word_law g range words p top x search viable new = new_leading g range words
 pub search_begin_law : SearchBeginLaw
 search_begin_law g = search_begin g
 
-pub search_skip_law : SearchSkipLaw
-search_skip_law g words p top x y search before between = search_skip g words p top x y search before between
-
 pub search_old_law : SearchOldLaw
 search_old_law g words p top x search old = search_old g words p top x search old
 
@@ -77,11 +73,3 @@ search_next_law g range words p top next search at = search_next g range words p
 
 pub search_end_law : SearchEndLaw
 search_end_law g range words p top search last = search_end g range words p top search last
-
--- ---- walks
-
-pub walk_law : WalkLaw
-walk_law g range has step made xs q at = walked g range has step made xs [] 0 q (holds_first g range has step made) at
-
-pub walk_stop_law : WalkStopLaw
-walk_stop_law g range has step made xs = (λ e. walk_stopped g range has step made xs [] 0 (holds_first g range has step made) e, λ no. walk_none g range has step made xs no (walk step (Some 0) xs) refl)

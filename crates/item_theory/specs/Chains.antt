@@ -3,7 +3,7 @@
 -- name after the dot is taken with the dot in front, for the same list, its lookahead being the first token of some
 -- token list that is derived from the symbols behind that name followed by the lookahead of the item before.
 -- Source: Knuth, On the Translation of Languages from Left to Right, 1965.
-use Rattle.std.specs.Prelude.{◌≡◌, ℕ, ◌+◌, ◌↔◌, Bool, IsTrue, List, [], ◌∷◌, ◌++◌, length}
+use Rattle.std.specs.Prelude.{◌≡◌, ℕ, ◌+◌, ◌↔◌, List, [], ◌∷◌, ◌++◌, length}
 use Rattle.grammar_data.specs.declared.rule.Sym.{Sym}
 use Rattle.grammar_data.specs.declared.rule.Sym.TheVariants.{Name}
 use Rattle.grammar_data.specs.Grammar.{Grammar}
@@ -54,17 +54,11 @@ FirstClosureLaw = (g : Grammar) → IsInRange g → (i : Item) → IsValid g [] 
 abbrev pub MovedClosureLaw : Type 0
 MovedClosureLaw = (g : Grammar) → IsInRange g → (xs : List Sym) (x : Sym) (i : Item) → IsValid g (xs ++ x ∷ []) i ↔ Closure g (IsMoved g (IsValid g xs) x) i
 
--- where all names are productive: an item with its dot before a name opens exactly the items of that name's rules, with
--- the dot in front and a lookahead that is found in the symbols behind the name, or behind them
+-- an item with its dot before a name opens items of that name's rules alone, with the dot in front and a lookahead that is
+-- found in the symbols behind the name, or behind them
+abbrev pub OpensOnlyLaw : Type 0
+OpensOnlyLaw = (g : Grammar) → IsInRange g → (i j : Item) (n m : ℕ) (before after : List Sym) → Dotted g i n before (Name m ∷ after) → Opens g i j → (right : List Sym) × IsRule g.rules j.rule m right × (j.dot ≡ 0) × IsFound g after i.ahead j.ahead
+
+-- where all names are productive, it opens all of these
 abbrev pub OpensLaw : Type 0
 OpensLaw = (g : Grammar) → IsInRange g → AllProductive g → (i j : Item) (n m : ℕ) (before after : List Sym) → Dotted g i n before (Name m ∷ after) → Opens g i j ↔ ((right : List Sym) × IsRule g.rules j.rule m right × (j.dot ≡ 0) × IsFound g after i.ahead j.ahead)
-
--- a test on items that knows items of the closure alone, those given, and each that a known one opens
-pub record IsClosureTest (g : Grammar) (given known : Item → Bool) : Type 0 where
-  pub sound : (i : Item) → IsTrue (known i) → Closure g (λ j. IsTrue (given j)) i
-  pub keeps : (i : Item) → IsTrue (given i) → IsTrue (known i)
-  pub closed : (i j : Item) → IsTrue (known i) → Opens g i j → IsTrue (known j)
-
--- such a test knows exactly the closure
-abbrev pub ClosureTestLaw : Type 0
-ClosureTestLaw = (g : Grammar) (given known : Item → Bool) → IsClosureTest g given known → (i : Item) → IsTrue (known i) ↔ Closure g (λ j. IsTrue (given j)) i

@@ -33,7 +33,11 @@ CollectionOnceLaw = (g : Grammar) (states others : ℕ) (has other_has : ℕ →
 abbrev pub CollectionWalkLaw : Type 0
 CollectionWalkLaw = (g : Grammar) → IsInRange g → (states : ℕ) (has : ℕ → Item → Bool) (step : ℕ → Sym → Option ℕ) (collection : IsCollection g states has step) (xs : List Sym) (q : ℕ) → (walk step (Some 0) xs ≡ Some q) ↔ IsStateOf g collection.words q xs
 
--- and stops exactly where the list is no viable prefix
+-- a list is a viable prefix exactly where a walk over it leads to a state
+abbrev pub CollectionViableLaw : Type 0
+CollectionViableLaw = (g : Grammar) → IsInRange g → (states : ℕ) (has : ℕ → Item → Bool) (step : ℕ → Sym → Option ℕ) → IsCollection g states has step → (xs : List Sym) → IsViable g xs ↔ ((q : ℕ) × (q < states) × (walk step (Some 0) xs ≡ Some q))
+
+-- so it stops exactly where the list is none
 abbrev pub CollectionStopLaw : Type 0
 CollectionStopLaw = (g : Grammar) → IsInRange g → (states : ℕ) (has : ℕ → Item → Bool) (step : ℕ → Sym → Option ℕ) → IsCollection g states has step → (xs : List Sym) → (walk step (Some 0) xs ≡ None) ↔ (¬ (IsViable g xs))
 

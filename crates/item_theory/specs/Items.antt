@@ -4,7 +4,7 @@
 -- δαβw, and the token is the first of w, or the end mark where w is empty. A viable prefix is a symbol list for which
 -- some item is valid.
 -- Source: Knuth, On the Translation of Languages from Left to Right, 1965.
-use Rattle.std.specs.Prelude.{◌≡◌, ◌≢◌, ℕ, ◌<◌, ◌≤◌, ◌↔◌, List, [], ◌∷◌, ◌++◌, length}
+use Rattle.std.specs.Prelude.{◌≡◌, ◌≢◌, ℕ, ◌<◌, ◌≤◌, ◌↔◌, ◌⊎◌, List, [], ◌∷◌, ◌++◌, length}
 use Rattle.grammar_data.specs.declared.rule.Sym.{Sym}
 use Rattle.grammar_data.specs.declared.rule.Sym.TheVariants.{Token, Name}
 use Rattle.grammar_data.specs.Grammar.{Rule, Grammar}
@@ -78,9 +78,14 @@ pub record IsConflict (g : Grammar) (prefix : List Sym) (a : ℕ) (first second 
 abbrev pub HasConflict : Grammar → Type 0
 HasConflict g = (prefix : List Sym) × (a : ℕ) × (first : Item) × (second : Item) × IsConflict g prefix a first second
 
--- the augmented item with the dot in front is valid for the empty list, and with the dot at its end for the start
+-- the augmented item with the dot after so many symbols, and the end mark
+abbrev pub augmented_item : Grammar → ℕ → Item
+augmented_item g dot = record { rule = length g.rules; dot = dot; ahead = end_mark g }
+
+-- an item of the augmented rule is valid exactly with the dot in front for the empty list, and with the dot at its end for
+-- the start, each with the end mark alone
 abbrev pub AugmentedItemsLaw : Type 0
-AugmentedItemsLaw = (g : Grammar) → IsValid g [] (record { rule = length g.rules; dot = 0; ahead = end_mark g }) × IsValid g (Name g.start ∷ []) (record { rule = length g.rules; dot = 1; ahead = end_mark g })
+AugmentedItemsLaw = (g : Grammar) → IsInRange g → (xs : List Sym) (i : Item) → i.rule ≡ length g.rules → IsValid g xs i ↔ (((xs ≡ []) × (i ≡ augmented_item g 0)) ⊎ ((xs ≡ Name g.start ∷ []) × (i ≡ augmented_item g 1)))
 
 -- an item has one left side, and its dot parts its right side in one way
 abbrev pub DottedOnceLaw : Type 0
@@ -90,9 +95,19 @@ DottedOnceLaw = (g : Grammar) (i : Item) (n m : ℕ) (before after front back : 
 abbrev pub OneDeedLaw : Type 0
 OneDeedLaw = (g : Grammar) (i : Item) (a : ℕ) (first second : Deed) → Does g i a first → Does g i a second → first ≡ second
 
--- a valid item has a rule and a dot in range, and a token or the end mark as its lookahead
+-- the item has a rule of the grammar or the augmented one, its dot in front of, between or behind the symbols of the right
+-- side, and a token or the end mark as its lookahead
+pub record IsItemOf (g : Grammar) (i : Item) : Type 0 where
+  pub name : ℕ
+  pub before : List Sym
+  pub after : List Sym
+  pub dotted : Dotted g i name before after
+  pub rule : i.rule ≤ length g.rules
+  pub ahead : i.ahead ≤ end_mark g
+
+-- a valid item is one of the grammar
 abbrev pub ItemRangeLaw : Type 0
-ItemRangeLaw = (g : Grammar) → IsInRange g → (xs : List Sym) (i : Item) → IsValid g xs i → (i.rule ≤ length g.rules) × (i.ahead ≤ end_mark g)
+ItemRangeLaw = (g : Grammar) → IsInRange g → (xs : List Sym) (i : Item) → IsValid g xs i → IsItemOf g i
 
 -- a viable prefix has the grammar's tokens and names alone
 abbrev pub PrefixRangeLaw : Type 0

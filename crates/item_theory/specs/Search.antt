@@ -1,6 +1,5 @@
 -- The states by a search breadth first: from each word found so far, in order, each symbol is tried, tokens before
 -- names, and a viable prefix with new items is put last. So the words found are the leading words in their order.
--- A table of steps from state to state, beside a test of the items of each, is exact where it is made by closures.
 -- Source: Knuth, On the Translation of Languages from Left to Right, 1965; Aho and Ullman, The Theory of Parsing,
 -- Translation, and Compiling, volume 1, section 5.2.
 use Rattle.std.specs.Prelude.{◌≡◌, ℕ, ◌+◌, ◌<◌, ◌↔◌, ◌⊎◌, Bool, IsTrue, List, [], ◌∷◌, ◌++◌, length, slice_get, Option, Some, None}
@@ -35,11 +34,7 @@ NewWordLaw = (g : Grammar) → IsInRange g → (words : List (List Sym)) (p : �
 abbrev pub SearchBeginLaw : Type 0
 SearchBeginLaw = (g : Grammar) → IsSearchedTo g ([] ∷ []) 0 [] (Token 0)
 
--- it goes on from a symbol to a later one where all between, the first among them, have a state where they are viable
-abbrev pub SearchSkipLaw : Type 0
-SearchSkipLaw = (g : Grammar) (words : List (List Sym)) (p : ℕ) (top : List Sym) (x y : Sym) → IsSearchedTo g words p top x → IsSymBefore x y → ((z : Sym) → (z ≡ x) ⊎ IsSymBefore x z → IsSymBefore z y → IsViable g (top ++ z ∷ []) → HasState g words (top ++ z ∷ [])) → IsSearchedTo g words p top y
-
--- to the next symbol where this one isn't viable or has a state
+-- it goes on to the next symbol where this one isn't viable or has a state
 abbrev pub SearchOldLaw : Type 0
 SearchOldLaw = (g : Grammar) (words : List (List Sym)) (p : ℕ) (top : List Sym) (x : Sym) → IsSearchedTo g words p top x → (IsViable g (top ++ x ∷ []) → HasState g words (top ++ x ∷ [])) → IsSearchedTo g words p top (next_symbol x)
 
@@ -64,19 +59,3 @@ abbrev pub walk : (ℕ → Sym → Option ℕ) → Option ℕ → List Sym → O
 walk step None xs = None
 walk step (Some q) [] = Some q
 walk step (Some q) (x ∷ xs) = walk step (step q x) xs
-
--- a test of the items of each state and a table of steps, made by closures: state 0 is the closure of the augmented
--- item, a step leads to the closure of the items moved over the symbol, and there is one exactly where some item moves
-pub record IsMadeByClosures (g : Grammar) (has : ℕ → Item → Bool) (step : ℕ → Sym → Option ℕ) : Type 0 where
-  pub first : (i : Item) → IsTrue (has 0 i) ↔ Closure g (IsFirstItem g) i
-  pub steps : (q p : ℕ) (x : Sym) → step q x ≡ Some p → (i : Item) → IsTrue (has p i) ↔ Closure g (IsMoved g (λ j. IsTrue (has q j)) x) i
-  pub goes : (q p : ℕ) (x : Sym) → step q x ≡ Some p → (i : Item) × (j : Item) × IsTrue (has q i) × Moves g x i j
-  pub stops : (q : ℕ) (x : Sym) → step q x ≡ None → (i j : Item) → IsTrue (has q i) → Moves g x i j → ⊥
-
--- the state that a walk over a list leads to has exactly the items that are valid for the list
-abbrev pub WalkLaw : Type 0
-WalkLaw = (g : Grammar) → IsInRange g → (has : ℕ → Item → Bool) (step : ℕ → Sym → Option ℕ) → IsMadeByClosures g has step → (xs : List Sym) (q : ℕ) → walk step (Some 0) xs ≡ Some q → (i : Item) → IsTrue (has q i) ↔ IsValid g xs i
-
--- a walk stops exactly where the list is no viable prefix
-abbrev pub WalkStopLaw : Type 0
-WalkStopLaw = (g : Grammar) → IsInRange g → (has : ℕ → Item → Bool) (step : ℕ → Sym → Option ℕ) → IsMadeByClosures g has step → (xs : List Sym) → (walk step (Some 0) xs ≡ None) ↔ (¬ (IsViable g xs))

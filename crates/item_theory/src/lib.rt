@@ -3,10 +3,10 @@
 #![tactic(auto)]
 
 ghost use Rattle.item_theory.specs.Items.{AugmentedItemsLaw, DottedOnceLaw, OneDeedLaw, ItemRangeLaw, PrefixRangeLaw};
-ghost use Rattle.item_theory.specs.Chains.{ChainLaw, FirstClosureLaw, MovedClosureLaw, OpensLaw, ClosureTestLaw};
+ghost use Rattle.item_theory.specs.Chains.{ChainLaw, FirstClosureLaw, MovedClosureLaw, OpensOnlyLaw, OpensLaw};
 ghost use Rattle.item_theory.specs.LeadingWords.{TotalLaw, TransitiveLaw, IrreflexiveLaw, PushLaw, LeadingOnceLaw, StepLaw, SameStepLaw, PrefixLaw, StatesOnceLaw, StateCountLaw, LeadingStateLaw, ConflictStateLaw};
-ghost use Rattle.item_theory.specs.Collections.{CollectionOnceLaw, CollectionWalkLaw, CollectionStopLaw, CollectionItemsLaw, MoreStatesLaw};
-ghost use Rattle.item_theory.specs.Search.{NewWordLaw, SearchBeginLaw, SearchSkipLaw, SearchOldLaw, SearchNewLaw, SearchNamesLaw, SearchNextLaw, SearchEndLaw, WalkLaw, WalkStopLaw};
+ghost use Rattle.item_theory.specs.Collections.{CollectionOnceLaw, CollectionWalkLaw, CollectionViableLaw, CollectionStopLaw, CollectionItemsLaw, MoreStatesLaw};
+ghost use Rattle.item_theory.specs.Search.{NewWordLaw, SearchBeginLaw, SearchOldLaw, SearchNewLaw, SearchNamesLaw, SearchNextLaw, SearchEndLaw};
 
 /// An item is valid for a symbol list exactly where a chain of items leads to it.
 pub fn chain_law()
@@ -26,8 +26,8 @@ pub fn item_laws()
 pub fn closure_laws()
     ensures first { FirstClosureLaw }
     ensures one_more { MovedClosureLaw }
+    ensures opens_only { OpensOnlyLaw }
     ensures opens { OpensLaw }
-    ensures test { ClosureTestLaw }
 {}
 
 /// Words are in one order.
@@ -53,7 +53,6 @@ pub fn state_laws()
 /// A search breadth first, tokens before names, finds the leading words of all states in their order.
 pub fn search_laws()
     ensures begin { SearchBeginLaw }
-    ensures skip { SearchSkipLaw }
     ensures old { SearchOldLaw }
     ensures new_word { NewWordLaw }
     ensures new { SearchNewLaw }
@@ -62,16 +61,12 @@ pub fn search_laws()
     ensures end { SearchEndLaw }
 {}
 
-/// A walk over a table of steps that is made by closures leads to the valid items, and stops where there are none.
-pub fn walk_laws()
-    ensures walk { WalkLaw }
-    ensures stop { WalkStopLaw }
-{}
-
-/// A grammar has one canonical collection, and a walk over it leads from list to list as the states do.
+/// A grammar has one canonical collection, and a walk over it leads from list to list as the states do, for viable prefixes
+/// alone.
 pub fn collection_laws()
     ensures once { CollectionOnceLaw }
     ensures walk { CollectionWalkLaw }
+    ensures viable { CollectionViableLaw }
     ensures stop { CollectionStopLaw }
     ensures items { CollectionItemsLaw }
     ensures more_states { MoreStatesLaw }

@@ -69,7 +69,7 @@ token_below bound a (_ ∷ before) after below = token_below bound a before afte
 pub does_within : (g : Grammar) → IsInRange g → (xs : List Sym) (i : Item) (a : ℕ) (deed : Deed) → IsValid g xs i → Does g i a deed → a ≤ end_mark g
 does_within g range xs i a deed known (shifts {before = before} {after = after} dotted) =
     let less : a < g.tokens = token_below g.tokens a before after (right_tokens g range dotted.rule) in omega arith
-does_within g range xs i a deed known (reduces dotted own at is) = let within = (item_range_law g range xs i known).1 in omega arith
+does_within g range xs i a deed known (reduces dotted own at is) = let within = (item_range_law g range xs i known).ahead in omega arith
 does_within g range xs i a deed known (accepts dotted last at) = omega arith
 
 pub no_conflict : NoConflictLaw

@@ -1,5 +1,5 @@
 -- Canonical tables lead from state to state as the collection does.
-use Rattle.std.proofs.Common.{◌≡◌, ℕ, ◌+◌, ◌*◌, ◌<◌, ◌≤◌, ◌↔◌, ◌⊎◌, inl, inr, Bool, true, false, nat_lt, if◌then◌else◌, IsTrue, List, [], ◌∷◌, ◌++◌, get_or, Option, Some, None, refl, sym, ap, subst, ◌∙◌, arith}
+use Rattle.std.proofs.Common.{◌≡◌, ℕ, ◌+◌, ◌*◌, ◌<◌, ◌≤◌, ◌↔◌, ◌⊎◌, inl, inr, ⊎_elim, Bool, true, false, nat_lt, if◌then◌else◌, IsTrue, List, [], ◌∷◌, ◌++◌, get_or, Option, Some, None, refl, sym, ap, subst, ◌∙◌, arith}
 use Rattle.std.proofs.lemmas.Bool.{cases_lt, lt-ltb, le-ltb}
 use Rattle.grammar_data.specs.declared.rule.Sym.{Sym}
 use Rattle.grammar_data.specs.declared.rule.Sym.TheVariants.{Token, Name}
@@ -11,15 +11,15 @@ use Rattle.item_theory.specs.Search.{walk}
 use Rattle.item_theory.specs.Collections.{IsStateOf, IsCollection}
 use Rattle.item_theory.proofs.ItemLaws.{prefix_range_law}
 use Rattle.item_theory.proofs.StateLemmas.{step_of_viable}
-use Rattle.item_theory.proofs.CollectionLaws.{first_word, collection_items_law, collection_stop_law}
+use Rattle.item_theory.proofs.CollectionLaws.{first_word, collection_items_law, collection_viable_law, collection_stop_law}
 use Rattle.table_data.specs.declared.act.Act.{Act}
 use Rattle.table_data.specs.declared.act.Act.TheVariants.{Shift, Reduce, Accept, Error}
 use Rattle.table_data.specs.Tables.{Tables, act_in, goto_in, shift_of, step_by}
 use Rattle.table_theory.specs.Deeds.{HasDeed}
 use Rattle.table_theory.specs.Clashes.{ItemsOf}
-use Rattle.table_theory.specs.Canonical.{deed_of, IsCanonicalAct, AreCanonical, CanonicalStepLaw, CanonicalDeedLaw, CanonicalStopLaw}
+use Rattle.table_theory.specs.Canonical.{deed_of, IsCanonicalAct, AreCanonical, CanonicalStepLaw, CanonicalWalkLaw, CanonicalDeedLaw, CanonicalViableLaw, CanonicalStopLaw}
 use Rattle.table_theory.proofs.ClashLemmas.{word_of, state_of}
-use Rattle.table_theory.proofs.CanonicalLemmas.{token_below}
+use Rattle.table_theory.proofs.CanonicalLemmas.{token_below, does_within}
 
 name_below : (bound n : ℕ) (before : List Sym) → NamesBelow bound (before ++ Name n ∷ []) → n < bound
 name_below bound n [] below = below.0
@@ -101,12 +101,35 @@ module _ (g : Grammar) (range : IsInRange g) (states : ℕ) (has : ℕ → Item 
         at_zero : (p : ℕ) → ◌≡◌ {A = Option ℕ} (Some 0) (Some p) → 0 ≡ p
         at_zero p is = cc
 
-    deed_same : (xs : List Sym) (q a : ℕ) → walk (step_by t) (Some 0) xs ≡ Some q → a ≤ end_mark g → (deed : Deed) → (deed_of (act_in t q a) ≡ Some deed) ↔ HasDeed g (IsValid g xs) a deed
-    deed_same xs q a is small deed =
+    deed_within : (xs : List Sym) (q a : ℕ) → walk (step_by t) (Some 0) xs ≡ Some q → a ≤ end_mark g → (deed : Deed) → (deed_of (act_in t q a) ≡ Some deed) ↔ HasDeed g (IsValid g xs) a deed
+    deed_within xs q a is small deed =
         let state = collection_items_law g range states has step collection xs q (sym (walk_same xs) ∙ is) in
         let act : IsCanonicalAct g has step q a (act_in t q a) = canonical.acts q a state.0 small in (
           λ does. let h = (act.deed deed).0 does in (h.0, (state.1 h.0).0 h.1, h.2),
           λ h. (act.deed deed).1 (h.0, (state.1 h.0).1 h.1, h.2),
+        )
+
+    -- beyond the end mark the action is an error, and no valid item does anything
+    deed_beyond : (xs : List Sym) (q a : ℕ) → g.tokens < a → (deed : Deed) → (deed_of (act_in t q a) ≡ Some deed) ↔ HasDeed g (IsValid g xs) a deed
+    deed_beyond xs q a past deed = (
+      λ does. absurd (none_some (sym (ap (λ (c : Bool). deed_of (if c then Error else get_or t.acts (q * (t.tokens + 1) + a) Error)) beyond) ∙ does)),
+      λ h. let small = does_within g range xs h.0 a deed h.1 h.2 in absurd (omega arith),
+    )
+      where
+        beyond : nat_lt t.tokens a ≡ true
+        beyond = lt-ltb t.tokens a (omega (arith, canonical.tokens))
+
+        none_some : ◌≡◌ {A = Option Deed} None (Some deed) → ⊥
+        none_some e = cc
+
+    deed_same : (xs : List Sym) (q a : ℕ) → walk (step_by t) (Some 0) xs ≡ Some q → (deed : Deed) → (deed_of (act_in t q a) ≡ Some deed) ↔ HasDeed g (IsValid g xs) a deed
+    deed_same xs q a is deed = ⊎_elim (λ past. deed_beyond xs q a past deed) (λ small. deed_within xs q a is small deed) (cases_lt g.tokens a)
+
+    viable_same : (xs : List Sym) → IsViable g xs ↔ ((q : ℕ) × (q < states) × (walk (step_by t) (Some 0) xs ≡ Some q))
+    viable_same xs =
+        let law = collection_viable_law g range states has step collection xs in (
+          λ viable. let led = law.0 viable in (led.0, led.1, walk_same xs ∙ led.2),
+          λ (q, inside, is). law.1 (q, inside, sym (walk_same xs) ∙ is),
         )
 
     stop_same : (xs : List Sym) → (walk (step_by t) (Some 0) xs ≡ None) ↔ (¬ (IsViable g xs))
@@ -118,7 +141,13 @@ pub canonical_step : CanonicalStepLaw
 canonical_step g range states has step t collection canonical q x less = step_same g range states has step collection t canonical q x less
 
 pub canonical_deed : CanonicalDeedLaw
-canonical_deed g range states has step t collection canonical xs q a is small deed = deed_same g range states has step collection t canonical xs q a is small deed
+canonical_deed g range states has step t collection canonical xs q a is deed = deed_same g range states has step collection t canonical xs q a is deed
+
+pub canonical_walk : CanonicalWalkLaw
+canonical_walk g range states has step t collection canonical xs = walk_same g range states has step collection t canonical xs
+
+pub canonical_viable : CanonicalViableLaw
+canonical_viable g range states has step t collection canonical xs = viable_same g range states has step collection t canonical xs
 
 pub canonical_stop : CanonicalStopLaw
 canonical_stop g range states has step t collection canonical xs = stop_same g range states has step collection t canonical xs

@@ -52,11 +52,19 @@ NoConflictLaw = (g : Grammar) → IsInRange g → (states : ℕ) (has : ℕ → 
 abbrev pub CanonicalStepLaw : Type 0
 CanonicalStepLaw = (g : Grammar) → IsInRange g → (states : ℕ) (has : ℕ → Item → Bool) (step : ℕ → Sym → Option ℕ) (t : Tables) → IsCollection g states has step → AreCanonical g states has step t → (q : ℕ) (x : Sym) → q < states → step_by t q x ≡ step q x
 
--- where they lead from state 0 over a list, the state's action on a token is exactly what some item that is valid for the
--- list does on it
-abbrev pub CanonicalDeedLaw : Type 0
-CanonicalDeedLaw = (g : Grammar) → IsInRange g → (states : ℕ) (has : ℕ → Item → Bool) (step : ℕ → Sym → Option ℕ) (t : Tables) → IsCollection g states has step → AreCanonical g states has step t → (xs : List Sym) (q a : ℕ) → walk (step_by t) (Some 0) xs ≡ Some q → a ≤ end_mark g → (deed : Deed) → (deed_of (act_in t q a) ≡ Some deed) ↔ HasDeed g (IsValid g xs) a deed
+-- so a walk by them is the walk by the collection
+abbrev pub CanonicalWalkLaw : Type 0
+CanonicalWalkLaw = (g : Grammar) → IsInRange g → (states : ℕ) (has : ℕ → Item → Bool) (step : ℕ → Sym → Option ℕ) (t : Tables) → IsCollection g states has step → AreCanonical g states has step t → (xs : List Sym) → walk (step_by t) (Some 0) xs ≡ walk step (Some 0) xs
 
--- they lead nowhere over a list exactly where it is no viable prefix
+-- where they lead from state 0 over a list, the state's action on a token is exactly what some item that is valid for the
+-- list does on it; beyond the end mark there is nothing of either
+abbrev pub CanonicalDeedLaw : Type 0
+CanonicalDeedLaw = (g : Grammar) → IsInRange g → (states : ℕ) (has : ℕ → Item → Bool) (step : ℕ → Sym → Option ℕ) (t : Tables) → IsCollection g states has step → AreCanonical g states has step t → (xs : List Sym) (q a : ℕ) → walk (step_by t) (Some 0) xs ≡ Some q → (deed : Deed) → (deed_of (act_in t q a) ≡ Some deed) ↔ HasDeed g (IsValid g xs) a deed
+
+-- a list is a viable prefix exactly where they lead to a state over it
+abbrev pub CanonicalViableLaw : Type 0
+CanonicalViableLaw = (g : Grammar) → IsInRange g → (states : ℕ) (has : ℕ → Item → Bool) (step : ℕ → Sym → Option ℕ) (t : Tables) → IsCollection g states has step → AreCanonical g states has step t → (xs : List Sym) → IsViable g xs ↔ ((q : ℕ) × (q < states) × (walk (step_by t) (Some 0) xs ≡ Some q))
+
+-- so they lead nowhere over a list exactly where it is none
 abbrev pub CanonicalStopLaw : Type 0
 CanonicalStopLaw = (g : Grammar) → IsInRange g → (states : ℕ) (has : ℕ → Item → Bool) (step : ℕ → Sym → Option ℕ) (t : Tables) → IsCollection g states has step → AreCanonical g states has step t → (xs : List Sym) → (walk (step_by t) (Some 0) xs ≡ None) ↔ (¬ (IsViable g xs))

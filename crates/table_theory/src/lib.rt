@@ -5,7 +5,7 @@
 ghost use Rattle.table_theory.specs.Deeds.{ItemTotalLaw, ItemTransitiveLaw, ItemIrreflexiveLaw};
 ghost use Rattle.table_theory.specs.Conflicts.{FirstConflictLaw, FirstConflictOnceLaw};
 ghost use Rattle.table_theory.specs.Clashes.{ClashLaw, FirstClashLaw};
-ghost use Rattle.table_theory.specs.Canonical.{CanonicalDeedLaw, CanonicalErrorLaw, CanonicalOnceLaw, CanonicalStepLaw, CanonicalStopLaw, NoConflictLaw};
+ghost use Rattle.table_theory.specs.Canonical.{CanonicalDeedLaw, CanonicalErrorLaw, CanonicalOnceLaw, CanonicalStepLaw, CanonicalStopLaw, CanonicalViableLaw, CanonicalWalkLaw, NoConflictLaw};
 
 /// Items are in one order.
 pub fn item_order_laws()
@@ -34,10 +34,12 @@ pub fn canonical_laws()
     ensures no_conflict { NoConflictLaw }
 {}
 
-/// Canonical tables lead over a list as the collection does: to a state that does what the valid items of the list do,
-/// and nowhere where the list is no viable prefix.
+/// Canonical tables lead over a list as the collection does: to a state that does what the valid items of the list do
+/// where the list is a viable prefix, and else nowhere.
 pub fn canonical_walk_laws()
     ensures step { CanonicalStepLaw }
+    ensures walk { CanonicalWalkLaw }
     ensures deed { CanonicalDeedLaw }
+    ensures viable { CanonicalViableLaw }
     ensures stop { CanonicalStopLaw }
 {}

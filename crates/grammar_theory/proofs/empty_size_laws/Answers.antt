@@ -1,4 +1,4 @@
-use Rattle.grammar_theory.proofs.NameLaws.{empty_tree_law, one_size_law, first_round_law, round_law, next_round_law, unsized_law, size_table_law, sized_law}
+use Rattle.grammar_theory.proofs.NameLaws.{empty_tree_law, one_size_law, first_round_law, round_law, next_round_law, unsized_law}
 use Rattle.grammar_theory.proofs.empty_size_laws.Goals as goal
 
 pub returns : goal.returns
@@ -9,6 +9,4 @@ returns c = record {
   round = round_law;
   next_round = next_round_law;
   none_below = unsized_law;
-  table = size_table_law;
-  sized = sized_law;
 }
