@@ -101,7 +101,7 @@ module _ (g : Grammar) (range : IsInRange g) (few : g.tokens < 256) (xs : List S
 
     module _ (words : List ℕ) (aheads : IsSetBelow (λ a. IsValid g xs (item r d a)) 256 words) (a : ℕ) (has : IsValid g xs (item r d a)) where
       ahead_small : (i : Item) → IsValid g xs i → i.ahead < 256
-      ahead_small i v = let le = (item_range_law g range xs i v).1 in omega arith
+      ahead_small i v = let le = (item_range_law g range xs i v).ahead in omega arith
 
       new_entry : HasDot g (item r d a) → IsEntry g (entry r d words)
       new_entry (n, before, after, dotted) = record {
@@ -185,7 +185,7 @@ module _ (g : Grammar) (range : IsInRange g) (few : g.tokens < 256) (xs : List S
   HasEntries = (es : List Entry) × AreEntries g es × ((i : Item) → IsTrue (entries_have es i) ↔ IsValid g xs i)
 
   whole : Listed (suc (length g.rules)) 0 → HasEntries
-  whole (es, listed) = (es, listed.are, λ i. (λ h. ((listed.have i).0 h).0, λ v. (listed.have i).1 (v, inl (let le = (item_range_law g range xs i v).0 in omega arith))))
+  whole (es, listed) = (es, listed.are, λ i. (λ h. ((listed.have i).0 h).0, λ v. (listed.have i).1 (v, inl (let le = (item_range_law g range xs i v).rule in omega arith))))
 
   pub entries_found : NotRefuted HasEntries
   entries_found refuted = rules_listed (suc (length g.rules)) 0 (suc (length g.rules)) (omega arith) ([], listed_begin) (λ found. refuted (whole found))

@@ -44,7 +44,7 @@ valid_item g range xs i (valid n front before after w reached dotted ahead prefi
     let size = length-append before after in
     let place = dotted.dot in
     let ranges = item_range_law g range xs i (valid n front before after w reached dotted ahead prefix) in
-    record { dotted = dotted_by g i.rule i.dot n (before ++ after) dotted.rule (omega (arith, size, place)); ahead = ranges.1 }
+    record { dotted = dotted_by g i.rule i.dot n (before ++ after) dotted.rule (omega (arith, size, place)); ahead = ranges.ahead }
 
 acts_on : (g : Grammar) → IsInRange g → (i : Item) (a : ℕ) (deed : Deed) → i.ahead ≤ end_mark g → Does g i a deed → a ≤ end_mark g
 acts_on g range i a deed within (shifts {before = before} {after = after} dotted) =
