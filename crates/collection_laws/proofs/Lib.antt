@@ -4,5 +4,6 @@ pub mod ListLemmas
 pub mod SetLemmas
 pub mod EntryLemmas
 pub mod CollectionLemmas
+pub mod DeedLemmas
 pub mod TablesLemmas
 pub mod BuiltLemmas

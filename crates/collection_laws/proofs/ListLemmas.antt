@@ -1,5 +1,5 @@
 -- Where for each place some element isn't refuted, a whole list of them isn't.
-use Rattle.std.proofs.Common.{◌≡◌, ℕ, zero, suc, ◌<◌, ◌⊎◌, inl, inr, List, [], ◌∷◌, ◌++◌, length, slice_get, Option, Some, refl, sym, subst, ◌∙◌, arith}
+use Rattle.std.proofs.Common.{◌≡◌, ℕ, zero, suc, ◌<◌, ◌⊎◌, inl, inr, ⊎_elim, List, [], ◌∷◌, ◌++◌, length, slice_get, Option, Some, refl, sym, subst, ◌∙◌, arith}
 use Rattle.std.proofs.lemmas.List.{length_push}
 use Rattle.grammar_theory.proofs.RuleLemmas.{slice_get_cases}
 use Rattle.state_laws.proofs.RefutedLemmas.{NotRefuted}
@@ -24,3 +24,12 @@ module _ {X : Type 0} (P : ℕ → X → Type 0) where
   list_found (suc n) each refuted =
       list_found n (λ k less. each k (omega arith))
       (λ some. each n (omega arith) (λ here. refuted (list_more n some here)))
+
+  -- where for each place there is an element or something else is so, there is a whole list of them or that is so
+  pub list_or : (C : Type 0) (n : ℕ) → ((k : ℕ) → k < n → ((x : X) × P k x) ⊎ C) → HasList n ⊎ C
+  list_or C zero each = inl ([], refl, none_at)
+  list_or C (suc n) each =
+      ⊎_elim
+      (λ some. ⊎_elim (λ here. inl (list_more n some here)) (λ other. inr other) (each n (omega arith)))
+      (λ other. inr other)
+      (list_or C n (λ k less. each k (omega arith)))

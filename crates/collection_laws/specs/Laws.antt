@@ -1,6 +1,7 @@
 -- What isn't refuted of a grammar: that it has a fault or is one that has tables. Which items are valid no test of these
--- definitions decides; so that there is a thing is had as that it is refuted that there is none.
-use Rattle.std.specs.Prelude.{◌≢◌, ℕ, ◌<◌}
+-- definitions decides; so that there is a thing is had as that it is refuted that there is none. A collection that is given
+-- has such a test, and so its tables, or a conflict, are found.
+use Rattle.std.specs.Prelude.{◌≢◌, ◌⊎◌, ℕ, ◌<◌}
 use Rattle.grammar_data.specs.Grammar.{Grammar}
 use Rattle.grammar_theory.specs.Rules.{IsInRange}
 use Rattle.item_theory.specs.Items.{HasConflict}
@@ -21,9 +22,9 @@ SomeFaultLaw = (g : Grammar) → IsInRange g → ((fault : GrammarFault) → fau
 abbrev pub SomeCollectionLaw : Type 0
 SomeCollectionLaw = (g : Grammar) → IsInRange g → g.tokens < 256 → (limit : ℕ) → ¬ (HasMoreStates g limit) → ((c : CollectionParts) → ¬ (IsCollectionOf g c)) → ⊥
 
--- where there is no conflict, it is refuted that a collection has no canonical tables
+-- with a collection given, what its entries do is decided: it has canonical tables, or the grammar has a conflict
 abbrev pub SomeTablesLaw : Type 0
-SomeTablesLaw = (g : Grammar) → IsInRange g → (c : CollectionParts) → IsCollectionOf g c → ¬ (HasConflict g) → ((t : Tables) → ¬ (AreCanonical g (state_count c) (has_item c) (step_in c) t)) → ⊥
+SomeTablesLaw = (g : Grammar) → IsInRange g → (c : CollectionParts) → IsCollectionOf g c → ((t : Tables) × AreCanonical g (state_count c) (has_item c) (step_in c) t) ⊎ HasConflict g
 
 -- it is refuted that a grammar that has tables has no canonical collection with canonical tables
 abbrev pub SomeBuiltLaw : Type 0

@@ -4,8 +4,8 @@
 
 ghost use Rattle.collection_laws.specs.Laws.{SomeFaultLaw, SomeCollectionLaw, SomeTablesLaw, SomeBuiltLaw, SomeGrammarLaw};
 
-/// It is refuted that a grammar with few states and at most 255 tokens has no canonical collection, and that one without
-/// a conflict has none of its tables.
+/// It is refuted that a grammar with few states and at most 255 tokens has no canonical collection; and a collection has
+/// canonical tables, or the grammar a conflict.
 pub fn collection_existence_laws()
     ensures collection { SomeCollectionLaw }
     ensures tables { SomeTablesLaw }
