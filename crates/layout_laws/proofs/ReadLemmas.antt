@@ -5,6 +5,7 @@ use Rattle.std.proofs.lemmas.List.Elements.{All-nil, All-cons}
 use Rattle.sheet_data.specs.Sheet.{Sheet}
 use Rattle.outline_data.specs.GroupParts.{GroupParts}
 use Rattle.outline_data.specs.Parts.{OutlineParts}
+use Rattle.lr_base.specs.declared.limits.TheConstants.{SHEET_BYTES}
 use Rattle.outline_theory.specs.Spelling.{spelled_outline, IsShaped}
 use Rattle.outline_theory.specs.Words.{texts, left_words}
 use Rattle.outline_theory.specs.Numbering.{is_one_of, IsSheetOf}
@@ -44,7 +45,7 @@ module _ (o : OutlineParts) (shaped : IsShaped o) (sheet : Sheet) (sound : IsSou
       let rule : Contains (texts (left_words p)) word = known_rule p word (ap (λ l. is_one_of l word) (names_same o shaped sheet sound r) ∙ r.start_of.one) in
       no_member word (subst (λ gs. Contains (texts (map (λ (g : GroupParts). g.left) gs)) word) none rule)
 
-pub layout_reads : (bytes : List ℕ) (sheet : Sheet) → AreBytes bytes → Reads bytes sheet → length (layout sheet) ≤ 262144 → Reads (layout sheet) sheet
+pub layout_reads : (bytes : List ℕ) (sheet : Sheet) → AreBytes bytes → Reads bytes sheet → length (layout sheet) ≤ SHEET_BYTES → Reads (layout sheet) sheet
 layout_reads bytes sheet small reads size =
     let o : OutlineParts = reads.outline in
     let shaped : IsShaped o = reads.has.of.shaped in

@@ -2,6 +2,7 @@
 #![tactic(auto)]
 
 mod lex;
+mod lexing;
 mod lines;
 mod taken;
 

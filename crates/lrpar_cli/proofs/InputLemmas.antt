@@ -3,15 +3,12 @@ use Rattle.std.proofs.Common.{◌≡◌, ◌≢◌, ℕ, ◌+◌, ◌<◌, List,
 use Rattle.std.specs.Io.KnownBytes.{Consumes}
 use Rattle.lr_base.specs.Outside.{ShelfSeen}
 use Rattle.lr_base.specs.Reading.{IsTooLong}
-use Rattle.pattern_data.specs.declared.pattern.Pattern.{Pattern}
 use Rattle.outline_data.specs.declared.fault.LimitKind.TheVariants.{SheetBytes}
 use Rattle.outline_data.specs.declared.fault.SheetFault.{SheetFault}
 use Rattle.outline_data.specs.declared.fault.SheetFault.TheVariants.{Limit, NoMemory as no_memory}
 use Rattle.sheet_data.specs.Sheet.{Sheet}
 use Rattle.outline_theory.specs.Reading.{Reads, IsFirstFault}
 use Rattle.sheet_reader.specs.Faults.{IsReadFault}
-use Rattle.sheet_reader.specs.Ranking.{IsScannable}
-use Rattle.token_patterns.specs.Build.{CanBuild}
 use Rattle.lrpar_cli.specs.declared.inputs.Stop.{Stop}
 use Rattle.lrpar_cli.specs.declared.inputs.Stop.TheVariants.{Sheet as sheet_stop, TextTooLong as long_stop, ReadFault as read_stop, NoMemory as memory_stop}
 use Rattle.lrpar_cli.specs.declared.inputs.Accepted.{Accepted}
@@ -50,10 +47,6 @@ refusal_of bytes fault (sheet_stop said) some (inr first) refusal = record { fau
 refusal_of bytes fault long_stop some read refusal = refusal
 refusal_of bytes fault read_stop some read refusal = refusal
 refusal_of bytes fault memory_stop some read refusal = tt
-
--- a sheet's patterns are what a scanner is made for
-pub can_build : (patterns : List Pattern) → IsScannable patterns → CanBuild patterns
-can_build patterns s = record { count = s.count; positions = s.positions; none_empty = s.not_empty }
 
 -- the refusal of a sheet that was read, whose patterns have too many states
 pub refused_states : (bytes : List ℕ) (sheet : Sheet) (stop : Stop) → Reads bytes sheet → IsStatesStop sheet stop → IsRefusedBy bytes stop

@@ -3,7 +3,7 @@ use Rattle.std.specs.Prelude.{◌≡◌, ℕ, ◌<◌, ◌≤◌, List, length, 
 use Rattle.scanning_theory.specs.Scan.{token_count}
 use Rattle.sheet_data.specs.Sheet.{Sheet as SheetParts}
 use Rattle.sheet_theory.specs.ScanOrder.{scanning_of}
-use Rattle.token_patterns.specs.declared.limits.TheConstants.{PATTERNS}
+use Rattle.scanning_theory.specs.declared.limits.TheConstants.{PATTERNS}
 use Rattle.token_patterns.specs.Scanner.{IsScannerOf, ranks_of}
 use Rattle.lrpar_cli.specs.declared.inputs.Accepted.{Accepted}
 use Rattle.lrpar_cli.specs.declared.inputs.Stop.{Stop}

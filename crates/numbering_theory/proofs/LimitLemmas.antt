@@ -6,6 +6,7 @@ use Rattle.std.proofs.lemmas.Option.{none-some}
 use Rattle.std.proofs.lemmas.List.Sums.{sum_by-cons}
 use Rattle.grammar_data.specs.Grammar.{Rule}
 use Rattle.lr_base.specs.IsGrammar.{symbols_of}
+use Rattle.scanning_theory.specs.declared.limits.TheConstants.{POSITIONS}
 use Rattle.sheet_data.specs.declared.parts.Decl.{Decl}
 use Rattle.outline_data.specs.declared.fault.LimitKind.{LimitKind}
 use Rattle.outline_data.specs.declared.fault.LimitKind.TheVariants.{Tokens, Skips, Names, Rules, RightSide, Symbols, Positions}
@@ -136,7 +137,7 @@ pub record AreWithin (lists : WordLists) (decls : List Decl) (rules : List Rule)
   pub few_rules : length rules ≤ 1000
   pub short_sides : long_side rules ≤ 20
   pub few_symbols : symbols_of rules ≤ 4000
-  pub few_positions : sum_by positions_in decls + sum_by length (unnamed_in lists) ≤ 5000
+  pub few_positions : sum_by positions_in decls + sum_by length (unnamed_in lists) ≤ POSITIONS
 
 pub none_over : (lists : WordLists) (decls : List Decl) (rules : List Rule) → first_passed (all_measures lists decls rules) ≡ None → AreWithin lists decls rules
 none_over lists decls rules none =
@@ -162,5 +163,5 @@ none_over lists decls rules none =
       few_rules = at_most Rules (length rules) 1000 sides_on behind_names (nat_lt 1000 (length rules)) refl;
       short_sides = at_most RightSide (long_side rules) 20 symbols_on behind_rules (nat_lt 20 (long_side rules)) refl;
       few_symbols = at_most Symbols (symbols_of rules) 4000 (position_measures lists decls) behind_sides (nat_lt 4000 (symbols_of rules)) refl;
-      few_positions = at_most Positions positions 5000 [] behind_symbols (nat_lt 5000 positions) refl;
+      few_positions = at_most Positions positions POSITIONS [] behind_symbols (nat_lt POSITIONS positions) refl;
     }

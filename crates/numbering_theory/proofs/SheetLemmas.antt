@@ -10,6 +10,7 @@ use Rattle.lr_base.specs.IsGrammar.{symbols_of}
 use Rattle.pattern_data.specs.declared.pattern.Pattern.{Pattern}
 use Rattle.pattern_data.specs.Language.{Matches}
 use Rattle.pattern_data.specs.Spellings.{IsSpelling}
+use Rattle.scanning_theory.specs.declared.limits.TheConstants.{POSITIONS}
 use Rattle.sheet_data.specs.declared.parts.Decl.{Decl}
 use Rattle.sheet_data.specs.declared.parts.Decl.TheVariants.{Literal as literal_decl, Matched as matched_decl, Skip as skip_decl}
 use Rattle.outline_data.specs.declared.outline.Word.{Word}
@@ -41,7 +42,7 @@ sheet_measures o decls =
   where
     behind_tokens : ℕ → List Measure
     behind_tokens n =
-        record { kind = Skips; count = sum_by skips_in decls; most = 50 } ∷ record { kind = Names; count = length (grammar_names o); most = 500 } ∷ record { kind = Rules; count = length (rules_of o); most = 1000 } ∷ record { kind = RightSide; count = long_side (rules_of o); most = 20 } ∷ record { kind = Symbols; count = symbols_of (rules_of o); most = 4000 } ∷ record { kind = Positions; count = n; most = 5000 } ∷ []
+        record { kind = Skips; count = sum_by skips_in decls; most = 50 } ∷ record { kind = Names; count = length (grammar_names o); most = 500 } ∷ record { kind = Rules; count = length (rules_of o); most = 1000 } ∷ record { kind = RightSide; count = long_side (rules_of o); most = 20 } ∷ record { kind = Symbols; count = symbols_of (rules_of o); most = 4000 } ∷ record { kind = Positions; count = n; most = POSITIONS } ∷ []
 
 -- no limit is passed, or the first
 pub keeps : (o : OutlineParts) (decls : List Decl) → first_passed (all_measures (lists_of o) decls (rules_of o)) ≡ None → KeepsLimits (sheet_with o decls)
@@ -131,7 +132,7 @@ ordinary o decls faultless are none =
     record {
       tokens = omega (arith, count_tokens o, kept.few_tokens);
       skips = kept.few_skips;
-      positions = subst (λ l. sum_by positions_in decls + sum_by length l ≤ 5000) (unnamed_behind o) kept.few_positions;
+      positions = subst (λ l. sum_by positions_in decls + sum_by length l ≤ POSITIONS) (unnamed_behind o) kept.few_positions;
       kept = all_ordinary o decls faultless are;
       literals = unnamed_texts o faultless;
       short = all_from AreShort o.groups (short_group (lists_of o) o.groups (short_rules (rules_of o) kept.short_sides));

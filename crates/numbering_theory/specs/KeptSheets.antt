@@ -4,6 +4,7 @@ use Rattle.outline_data.specs.declared.fault.SheetFault.{SheetFault}
 use Rattle.outline_data.specs.declared.fault.SheetFault.TheVariants.{BadByte, Syntax, BadPattern, PatternMatchesEmpty, Redeclared, UnknownSymbol, NoRules, PlaceOutOfRange, PlaceTwice, NotAToken, Limit, NoMemory}
 use Rattle.outline_data.specs.Parts.{OutlineParts}
 use Rattle.pattern_data.specs.Language.{Matches}
+use Rattle.scanning_theory.specs.declared.limits.TheConstants.{POSITIONS}
 use Rattle.sheet_data.specs.Sheet.{Sheet}
 use Rattle.sheet_data.specs.declared.parts.Decl.{Decl}
 use Rattle.sheet_data.specs.declared.parts.Decl.TheVariants.{Literal, Matched, Skip}
@@ -72,7 +73,7 @@ AreShort g = All (λ (a : AlternativeParts). length a.right ≤ 20) g.alternativ
 pub record IsOrdinary (o : OutlineParts) (decls : List Decl) : Type 0 where
   pub tokens : length (token_words o) + length (unnamed_literals o) ≤ 250
   pub skips : sum_by skips_in decls ≤ 50
-  pub positions : sum_by positions_in decls + sum_by length (unnamed_literals o) ≤ 5000
+  pub positions : sum_by positions_in decls + sum_by length (unnamed_literals o) ≤ POSITIONS
   pub kept : All IsOrdinaryDecl decls
   pub literals : All IsLiteralText (unnamed_literals o)
   pub short : All AreShort o.groups

@@ -2,6 +2,7 @@
 use Rattle.std.specs.Prelude.{◌≡◌, ℕ, ◌+◌, ◌⊎◌, List, [], ◌∷◌, ◌++◌, length, sum_by, Some, None, Result, MatchResult}
 use Rattle.grammar_data.specs.Grammar.{Rule}
 use Rattle.lr_base.specs.IsGrammar.{symbols_of}
+use Rattle.scanning_theory.specs.declared.limits.TheConstants.{POSITIONS}
 use Rattle.sheet_data.specs.declared.parts.Decl.{Decl}
 use Rattle.outline_data.specs.declared.fault.LimitKind.{LimitKind}
 use Rattle.outline_data.specs.declared.fault.LimitKind.TheVariants.{Tokens, Skips, Names, Rules, RightSide, Symbols, Positions}
@@ -35,7 +36,7 @@ rule_measures rules =
 
 abbrev pub position_measures : WordLists → List Decl → List Measure
 position_measures lists decls =
-    record { kind = Positions; count = sum_by positions_in decls + sum_by length (unnamed_in lists); most = 5000 } ∷ []
+    record { kind = Positions; count = sum_by positions_in decls + sum_by length (unnamed_in lists); most = POSITIONS } ∷ []
 
 -- all of them, in their order
 abbrev pub all_measures : WordLists → List Decl → List Rule → List Measure

@@ -10,6 +10,7 @@ use crate::numbers::Numbers;
 use lr_base::Rule;
 use outline_data::{LimitKind, SheetFault};
 use position_sets::count_positions;
+use scanning_theory::POSITIONS;
 use sheet_data::Decl;
 
 /// The most declared tokens and unnamed literals together.
@@ -29,9 +30,6 @@ const SIDE_SYMBOLS: usize = 20;
 
 /// The most symbols of all right sides together.
 const SYMBOLS: usize = 4_000;
-
-/// The most positions of all patterns and literals together.
-const POSITIONS: usize = 5_000;
 
 /// Looks at one quantity.
 fn within(kind: LimitKind, count: usize, most: usize) -> Result<(), SheetFault>

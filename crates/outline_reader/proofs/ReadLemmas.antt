@@ -9,6 +9,7 @@ use Rattle.lexeme_theory.specs.declared.found.FaultKind.TheVariants.{BadByte as 
 use Rattle.lexeme_theory.specs.Lines.{line_of}
 use Rattle.lexeme_theory.proofs.ReadingLemmas.{blanks_read, reading_order, lexeme_on}
 use Rattle.lexeme_theory.proofs.LineLemmas.{lines_before-most}
+use Rattle.lr_base.specs.declared.limits.TheConstants.{SHEET_BYTES}
 use Rattle.sheet_lexemes.specs.declared.cursor.Cursor.{Cursor}
 use Rattle.sheet_lexemes.specs.declared.fault.LexFault.{LexFault}
 use Rattle.sheet_lexemes.specs.declared.fault.LexFault.TheVariants.{BadByte as bad_byte_read, Syntax as syntax_read}
@@ -30,7 +31,7 @@ use Rattle.outline_reader.specs.Refusals.{IsRefused, IsNoLexeme}
 use Rattle.outline_reader.specs.Faults.{IsOutlineFault}
 
 -- a line is at most the number of the bytes, and at least 1
-pub line_small : (bytes : List ℕ) (at line : ℕ) → length bytes ≤ 262144 → line ≡ line_of bytes at → line ≤ 262144
+pub line_small : (bytes : List ℕ) (at line : ℕ) → length bytes ≤ SHEET_BYTES → line ≡ line_of bytes at → line ≤ SHEET_BYTES
 line_small bytes at line size e = let most = lines_before-most bytes (min (at + 1) (length bytes)) in omega (arith, most, e)
 
 -- what was read, by its kind

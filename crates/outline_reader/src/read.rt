@@ -1,5 +1,6 @@
 //! A sheet's outline.
 ghost use Rattle.std.specs.Prelude.{◌≡◌, ◌≤◌, length, IfOk, IfErr};
+ghost use Rattle.lr_base.specs.declared.limits.TheConstants.{SHEET_BYTES};
 ghost use Rattle.sheet_lexemes.specs.Cursors.{IsCursor, IsRead};
 ghost use Rattle.outline_theory.specs.Outlines.{IsOutlineOf};
 ghost use Rattle.outline_reader.specs.Faults.{IsOutlineFault};
@@ -12,7 +13,7 @@ use std::alloc::Global;
 
 /// The next lexeme of a sheet.
 fn lexeme_from(alloc: Global, bytes: &[u8], from: Cursor) -> Result<Read, SheetFault>
-    requires size { length bytes.now ≤ 262144 }
+    requires size { length bytes.now ≤ SHEET_BYTES }
     requires stands { IsCursor bytes.now from }
     ensures read { IfOk result (λ read. IsRead bytes.now from.at read) }
     ensures fault { IfErr result (λ fault. IsNoLexeme bytes.now from.at fault) }
@@ -27,7 +28,7 @@ fn lexeme_from(alloc: Global, bytes: &[u8], from: Cursor) -> Result<Read, SheetF
 
 /// The line of a place.
 fn line_of_place(bytes: &[u8], place: Cursor) -> u32
-    requires size { length bytes.now ≤ 262144 }
+    requires size { length bytes.now ≤ SHEET_BYTES }
     requires stands { IsCursor bytes.now place }
     ensures { result ≡ place.line }
 {
@@ -37,7 +38,7 @@ fn line_of_place(bytes: &[u8], place: Cursor) -> u32
 /// The outline of a sheet of at most 262,144 bytes, or its first lexical or syntactic fault, with the line on which the
 /// faulty lexeme begins. Nothing is read behind the second `%%`. Of a pattern the outline has its text, as it stands.
 pub fn read_outline(alloc: Global, bytes: &[u8]) -> Result<Outline, SheetFault>
-    requires { length bytes.now ≤ 262144 }
+    requires { length bytes.now ≤ SHEET_BYTES }
     ensures outline { IfOk result (λ o. IsOutlineOf bytes.now o) }
     ensures fault { IfErr result (λ fault. IsOutlineFault bytes.now fault) }
 {

@@ -2,15 +2,12 @@
 use Rattle.std.specs.Prelude.{ℕ, ◌+◌, nat_lt, if◌then◌else◌, List, [], ◌∷◌, length, sum_by, Option, None, Some}
 use Rattle.grammar_data.specs.Grammar.{Rule}
 use Rattle.pattern_data.specs.Language.{positions_of}
+use Rattle.scanning_theory.specs.declared.limits.TheConstants.{POSITIONS}
 use Rattle.sheet_data.specs.Sheet.{Sheet}
 use Rattle.sheet_data.specs.declared.parts.Decl.{Decl}
 use Rattle.sheet_data.specs.declared.parts.Decl.TheVariants.{Literal, Matched, Skip}
 use Rattle.outline_data.specs.declared.fault.LimitKind.{LimitKind}
 use Rattle.outline_data.specs.declared.fault.LimitKind.TheVariants.{Tokens, Skips, Names, Rules, RightSide, Symbols, Positions}
-
--- the most bytes that a sheet may have
-abbrev pub sheet_limit : ℕ
-sheet_limit = 262144
 
 -- a quantity of a sheet, and the most that it may be
 pub record Measure : Type 0 where
@@ -42,7 +39,7 @@ measures sheet =
     ∷ record { kind = Rules; count = length sheet.grammar.rules; most = 1000 }
     ∷ record { kind = RightSide; count = long_side sheet.grammar.rules; most = 20 }
     ∷ record { kind = Symbols; count = sum_by (λ (rule : Rule). length rule.1) sheet.grammar.rules; most = 4000 }
-    ∷ record { kind = Positions; count = sum_by positions_in sheet.decls + sum_by length sheet.literals; most = 5000 }
+    ∷ record { kind = Positions; count = sum_by positions_in sheet.decls + sum_by length sheet.literals; most = POSITIONS }
     ∷ []
 
 -- the first quantity that passes its limit

@@ -1,3 +1,4 @@
 pub mod Laws
 pub mod Lines
 pub mod Scan
+pub mod Scannable

@@ -8,9 +8,10 @@ use Rattle.sheet_data.specs.Sheet.{Sheet}
 use Rattle.outline_data.specs.declared.fault.SheetFault.{SheetFault}
 use Rattle.outline_data.specs.GroupParts.{GroupParts}
 use Rattle.outline_data.specs.Parts.{OutlineParts}
+use Rattle.lr_base.specs.declared.limits.TheConstants.{SHEET_BYTES}
 use Rattle.outline_theory.specs.Outlines.{IsLexicalFault}
 use Rattle.outline_theory.specs.Numbering.{IsSheetOf}
-use Rattle.outline_theory.specs.Limits.{sheet_limit, Measure, measures, first_passed}
+use Rattle.outline_theory.specs.Limits.{Measure, measures, first_passed}
 use Rattle.outline_theory.specs.Reading.{HasOutline, IsFaultless, Reads, IsFirstFault}
 use Rattle.outline_theory.specs.Reading.IsFirstFault.{too_long, bad_byte, syntax, no_rules, on_line, limit}
 use Rattle.outline_laws.specs.Laws.{HasSomeOutline, HasLexicalFault}
@@ -35,13 +36,13 @@ module _ (bytes : List ℕ) (unread : (sheet : Sheet) → Reads bytes sheet → 
     nonempty : (o.groups ≡ g ∷ groups) × (o.groups ≡ []) → ⊥
     nonempty (is, none) = cc
 
-  by_kind : (kind : FaultKind) (line : ℕ) → length bytes ≤ sheet_limit → IsLexicalFault bytes kind line → ⊥
+  by_kind : (kind : FaultKind) (line : ℕ) → length bytes ≤ SHEET_BYTES → IsLexicalFault bytes kind line → ⊥
   by_kind bad_byte_kind line size h = faultless _ (bad_byte size h)
   by_kind syntax_kind line size h = faultless _ (syntax size h)
 
-  by_answer : length bytes ≤ sheet_limit → HasSomeOutline bytes ⊎ HasLexicalFault bytes → ⊥
+  by_answer : length bytes ≤ SHEET_BYTES → HasSomeOutline bytes ⊎ HasLexicalFault bytes → ⊥
   by_answer size (inl h) = by_rules h.0 h.0.groups (record { size = size; of = h.1 }) refl
   by_answer size (inr h) = by_kind h.0 h.1 size h.2
 
   pub some_sheet_or_fault : ⊥
-  some_sheet_or_fault = ⊎_elim (λ long. faultless _ (too_long long)) (λ short. by_answer (omega (arith, short)) (some_answer bytes)) (cases_lt sheet_limit (length bytes))
+  some_sheet_or_fault = ⊎_elim (λ long. faultless _ (too_long long)) (λ short. by_answer (omega (arith, short)) (some_answer bytes)) (cases_lt SHEET_BYTES (length bytes))

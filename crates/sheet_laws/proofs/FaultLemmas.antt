@@ -1,5 +1,5 @@
 -- Bytes have one first fault at most, and none where they are a sheet.
-use Rattle.std.proofs.Common.{◌≡◌, ◌≢◌, ℕ, ◌<◌, ◌≤◌, List, [], length, refl, sym, ap, subst, ◌∙◌, arith}
+use Rattle.std.proofs.Common.{◌≡◌, ◌≢◌, ℕ, ◌+◌, ◌<◌, ◌≤◌, List, [], length, refl, sym, ap, subst, ◌∙◌, arith}
 use Rattle.std.specs.Prelude.{None, Some}
 use Rattle.std.proofs.lemmas.Option.{none-some, same_Some}
 use Rattle.lexeme_theory.specs.declared.found.FaultKind.{FaultKind}
@@ -9,10 +9,11 @@ use Rattle.outline_data.specs.declared.fault.LimitKind.TheVariants.{SheetBytes}
 use Rattle.outline_data.specs.declared.fault.SheetFault.{SheetFault}
 use Rattle.outline_data.specs.declared.fault.SheetFault.TheVariants.{BadByte, Syntax, NoRules, Limit}
 use Rattle.outline_data.specs.Parts.{OutlineParts}
+use Rattle.lr_base.specs.declared.limits.TheConstants.{SHEET_BYTES}
 use Rattle.outline_theory.specs.Outlines.{IsLexicalFault}
 use Rattle.outline_theory.specs.LineFaults.{IsFirstLineFault}
 use Rattle.outline_theory.specs.Numbering.{IsSheetOf}
-use Rattle.outline_theory.specs.Limits.{sheet_limit, Measure, measures, first_passed}
+use Rattle.outline_theory.specs.Limits.{Measure, measures, first_passed}
 use Rattle.outline_theory.specs.Reading.{HasOutline, IsFaultless, Reads, IsFirstFault}
 use Rattle.outline_theory.specs.Reading.IsFirstFault.{too_long, bad_byte, syntax, no_rules, on_line, limit}
 use Rattle.outline_laws.proofs.ApartLemmas.{one_outline, one_fault, no_fault}
@@ -31,8 +32,8 @@ data OutlineFault (o : OutlineParts) (fault : SheetFault) : Type 0 where
 
 -- what the first fault of bytes comes from
 data Cause (bytes : List ℕ) (fault : SheetFault) : Type 0 where
-  by_size : sheet_limit < length bytes → fault ≡ Limit SheetBytes 262145 → Cause bytes fault
-  by_lexemes : (kind : FaultKind) (line : ℕ) → length bytes ≤ sheet_limit → IsLexicalFault bytes kind line → fault ≡ lexical_fault kind line → Cause bytes fault
+  by_size : SHEET_BYTES < length bytes → fault ≡ Limit SheetBytes (SHEET_BYTES + 1) → Cause bytes fault
+  by_lexemes : (kind : FaultKind) (line : ℕ) → length bytes ≤ SHEET_BYTES → IsLexicalFault bytes kind line → fault ≡ lexical_fault kind line → Cause bytes fault
   by_outline : (o : OutlineParts) → HasOutline bytes o → OutlineFault o fault → Cause bytes fault
 
 cause : (bytes : List ℕ) {fault : SheetFault} → IsFirstFault bytes fault → Cause bytes fault
@@ -59,7 +60,7 @@ outline_once o f g (OutlineFault.first_limit {sheet = sheet} {measure = measure}
     is ∙ ap (λ (m : Measure). Limit m.kind m.count) measured ∙ sym other_is
 
 module _ (bytes : List ℕ) where
-  long_apart : sheet_limit < length bytes → length bytes ≤ sheet_limit → ⊥
+  long_apart : SHEET_BYTES < length bytes → length bytes ≤ SHEET_BYTES → ⊥
   long_apart long short = omega (arith, long, short)
 
   cause_once : (f g : SheetFault) → Cause bytes f → Cause bytes g → f ≡ g

@@ -3,6 +3,7 @@ use Rattle.std.proofs.Common.{◌≡◌, suc, ◌+◌, ◌≤◌, List, [], ◌�
 use Rattle.std.specs.Prelude.{All, sum_by}
 use Rattle.std.specs.List.{flat_map}
 use Rattle.std.proofs.lemmas.List.{length-map, length-append}
+use Rattle.scanning_theory.specs.declared.limits.TheConstants.{POSITIONS}
 use Rattle.sheet_data.specs.Sheet.{Sheet}
 use Rattle.sheet_data.specs.declared.parts.Decl.{Decl}
 use Rattle.sheet_theory.specs.Names.{declared_names}
@@ -74,7 +75,7 @@ well_made o sheet parts ordinary =
       tokens = omega (arith, ap (λ g. g.tokens) parts.grammar, ap length parts.literals, names);
       count = omega (arith, ordinary.tokens, ap length parts.literals, names);
       skips = ordinary.skips;
-      positions = subst (λ l. sum_by positions_in sheet.decls + sum_by length l ≤ 5000) (sym parts.literals) ordinary.positions;
+      positions = subst (λ l. sum_by positions_in sheet.decls + sum_by length l ≤ POSITIONS) (sym parts.literals) ordinary.positions;
       decls = ordinary.kept;
       literals = subst (All IsLiteralText) (sym parts.literals) ordinary.literals;
       names = ap (λ g. g.names) parts.grammar ∙ ap length (sym parts.names);

@@ -32,23 +32,9 @@ patterns_in ranked = map (λ (r : Ranked). r.0) ranked
 abbrev means_in : List Ranked → List Meaning
 means_in ranked = map (λ (r : Ranked). r.1) ranked
 
--- one more pattern
-pub ranks_push : (old new : ScanOrder) (pattern : Pattern) (meaning : Meaning) (ranked : List Ranked) → new.patterns.items ≡ old.patterns.items ++ pattern ∷ [] → new.means.items ≡ old.means.items ++ meaning ∷ [] → Ranks old ranked → Ranks new (ranked ++ (pattern, meaning) ∷ [])
-ranks_push old new pattern meaning ranked patterns means ranks = record {
-  patterns = patterns ∙ ap (λ ps. ps ++ pattern ∷ []) ranks.patterns ∙ sym (map-append (λ (r : Ranked). r.0) ranked ((pattern, meaning) ∷ []));
-  means = means ∙ ap (λ ms. ms ++ meaning ∷ []) ranks.means ∙ sym (map-append (λ (r : Ranked). r.1) ranked ((pattern, meaning) ∷ []));
-}
-
 -- more patterns behind others
-abbrev pub RanksMore : ScanOrder → ScanOrder → List Ranked → Type 0
-RanksMore old new more = (ranked : List Ranked) → Ranks old ranked → Ranks new (ranked ++ more)
-
-pub ranks_none : (order : ScanOrder) → RanksMore order order []
-ranks_none order ranked h = subst (Ranks order) (sym (append-nil ranked)) h
-
-pub ranks_both : (old middle new : ScanOrder) (first second all : List Ranked) → RanksMore old middle first → RanksMore middle new second → first ++ second ≡ all → RanksMore old new all
-ranks_both old middle new first second all h k are ranked ranks =
-    subst (Ranks new) (append_assoc ranked first second ∙ ap (λ l. ranked ++ l) are) (k (ranked ++ first) (h ranked ranks))
+pub ranked_both : (old middle new first second all : List Ranked) → middle ≡ old ++ first → new ≡ middle ++ second → first ++ second ≡ all → new ≡ old ++ all
+ranked_both old middle new first second all h k are = k ∙ ap (λ l. l ++ second) h ∙ append_assoc old first second ∙ ap (λ l. old ++ l) are
 
 -- the tokens of declarations, and those behind them
 pub names_append : (xs ys : List Decl) → declared_names (xs ++ ys) ≡ declared_names xs ++ declared_names ys
@@ -283,10 +269,10 @@ module _ (sheet : Sheet) (good : IsWellFormed sheet) where
   all_tokens = subst (λ l. token_count (means_in l) ≡ sheet.grammar.tokens) (order_is sheet) in_order_tokens
 
 -- all patterns are ranked
-pub order_ranked : (sheet : Sheet) (order : ScanOrder) (decls others : List Decl) (literals : List (List ℕ)) (from : ℕ) → decls ≡ sheet.decls → others ≡ sheet.decls → literals ≡ sheet.literals → from ≡ length (declared_names sheet.decls) → Ranks order ((declared_literals 0 decls ++ unnamed_literals from literals) ++ declared_patterns 0 others) → Ranks order (scan_order sheet)
-order_ranked sheet order decls others literals from same again words count ranks =
+pub order_ranked : (sheet : Sheet) (ranking : List Ranked) (decls others : List Decl) (literals : List (List ℕ)) (from : ℕ) → decls ≡ sheet.decls → others ≡ sheet.decls → literals ≡ sheet.literals → from ≡ length (declared_names sheet.decls) → ranking ≡ (declared_literals 0 decls ++ unnamed_literals from literals) ++ declared_patterns 0 others → ranking ≡ scan_order sheet
+order_ranked sheet ranking decls others literals from same again words count ranked =
     let are : (declared_literals 0 decls ++ unnamed_literals from literals) ++ declared_patterns 0 others ≡ (declared_literals 0 sheet.decls ++ unnamed_literals (length (declared_names sheet.decls)) sheet.literals) ++ declared_patterns 0 sheet.decls = cc in
-    subst (Ranks order) (are ∙ append_assoc (declared_literals 0 sheet.decls) (unnamed_literals (length (declared_names sheet.decls)) sheet.literals) (declared_patterns 0 sheet.decls) ∙ order_is sheet) ranks
+    ranked ∙ are ∙ append_assoc (declared_literals 0 sheet.decls) (unnamed_literals (length (declared_names sheet.decls)) sheet.literals) (declared_patterns 0 sheet.decls) ∙ order_is sheet
 
 pub one_meaning_each : (order : ScanOrder) (ranked : List Ranked) → Ranks order ranked → length order.patterns.items ≡ length order.means.items
 one_meaning_each order ranked ranks =

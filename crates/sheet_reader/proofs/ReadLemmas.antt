@@ -4,6 +4,7 @@ use Rattle.std.specs.Prelude.{sum_by, ◌==◌, All, Contains}
 use Rattle.std.proofs.lemmas.Bool.Decides.{nat_tests}
 use Rattle.sheet_data.specs.Sheet.{Sheet}
 use Rattle.sheet_data.specs.declared.parts.Decl.{Decl}
+use Rattle.lr_base.specs.declared.limits.TheConstants.{SHEET_BYTES}
 use Rattle.outline_data.specs.declared.outline.Word.{Word}
 use Rattle.outline_data.specs.declared.outline.Declaration.{Declaration}
 use Rattle.outline_data.specs.declared.outline.Declaration.TheVariants.{Literal, Matched, Skip, Start}
@@ -33,10 +34,10 @@ pub filled_list : {X : Type 0} (xs : List X) (n : ℕ) → n ≡ length xs → f
 filled_list [] n size e none = let some : n ≢ 0 = grind (arith, nat_tests) in some size
 filled_list (x ∷ xs) n size e none = let one : length (x ∷ xs) ≡ 0 = ap length none in absurd (omega arith)
 
-pub has_outline : (bytes : List ℕ) (o : OutlineParts) → length bytes ≤ 262144 → IsOutlineOf bytes o → HasOutline bytes o
+pub has_outline : (bytes : List ℕ) (o : OutlineParts) → length bytes ≤ SHEET_BYTES → IsOutlineOf bytes o → HasOutline bytes o
 has_outline bytes o size of = record { size = size; of = of }
 
-pub refused_reading : (bytes : List ℕ) (fault : SheetFault) → length bytes ≤ 262144 → IsOutlineFault bytes fault → IsReadFault bytes fault
+pub refused_reading : (bytes : List ℕ) (fault : SheetFault) → length bytes ≤ SHEET_BYTES → IsOutlineFault bytes fault → IsReadFault bytes fault
 refused_reading bytes (BadByte line) size h = inr (IsFirstFault.bad_byte size h)
 refused_reading bytes (Syntax line) size h = inr (IsFirstFault.syntax size h)
 refused_reading bytes (BadPattern line) size h = absurd h
@@ -109,6 +110,6 @@ read_within bytes o decls sheet has faultless are keeps says =
     let same : sheet_with o decls ≡ sheet = sheet_once o (sheet_with o decls) sheet (sheet_says o decls are) says in
     record { outline = o; has = has; faultless = faultless; says = says; within = subst KeepsLimits same keeps }
 
-pub few_positions : (bytes : List ℕ) (o : OutlineParts) (decls : List Decl) → length bytes ≤ 262144 → IsOutlineOf bytes o → AreDecls o.declarations decls → sum_by positions_in decls + sum_by length (unnamed_literals o) < 2 ^ 64
+pub few_positions : (bytes : List ℕ) (o : OutlineParts) (decls : List Decl) → length bytes ≤ SHEET_BYTES → IsOutlineOf bytes o → AreDecls o.declarations decls → sum_by positions_in decls + sum_by length (unnamed_literals o) < 2 ^ 64
 few_positions bytes o decls size of are =
     let within : sum_by positions_in decls + sum_by length (unnamed_literals o) ≤ length bytes = declared_within bytes o decls of are in omega (arith, within, size)

@@ -4,6 +4,7 @@
 mod copies;
 mod parts;
 mod print;
+mod printer;
 mod read;
 mod scan_order;
 mod sheet;

@@ -1,20 +1,20 @@
 //! The normal layout of a sheet.
-ghost use Rattle.std.specs.Prelude.{◌≡◌, ℕ, ◌<◌, ◌∷◌, ◌++◌, length, map, List, Some, unwrap_or, slice_get, [], decimal, IfOk, OnOk};
+ghost use Rattle.std.specs.Prelude.{◌≡◌, ◌∷◌, ◌++◌, map, decimal, IfOk, OnOk};
 ghost use Rattle.std.specs.List.{flat_map};
-ghost use Rattle.sheet_theory.specs.Names.{token_names};
-ghost use Rattle.outline_theory.specs.Layout.{line_text, symbol_text, part_text, mark_words, rule_lines, pattern_text, decl_words, layout};
-ghost use Rattle.sheet_reader.specs.Printing.{spaced, ended, head_text, tail_text, rule_text};
+ghost use Rattle.outline_theory.specs.Layout.{line_text, part_text, mark_words, pattern_text, decl_words, layout};
+ghost use Rattle.sheet_reader.specs.Printing.{spaced, ended, tail_text};
 
+use crate::printer::Printer;
 use crate::sheet::Sheet;
 use crate::token_text::push_escaped;
 use itoa::Buffer;
-use lr_base::{NoMemory, Rule, RuleId, Sym};
+use lr_base::NoMemory;
 use pattern_data::Pattern;
-use sheet_data::{Bytes, Decl, Part};
+use sheet_data::{Decl, Part};
 use std::alloc::Global;
 
 /// Adds a word and a space.
-fn push_word(text: &mut Vec<u8>, word: &[u8]) -> Result<(), NoMemory>
+pub fn push_word(text: &mut Vec<u8>, word: &[u8]) -> Result<(), NoMemory>
     ensures { OnOk result (text.new.items ≡ text.old.items ++ spaced word.now) }
 {
     text.extend_from_slice(word)?;
@@ -23,33 +23,12 @@ fn push_word(text: &mut Vec<u8>, word: &[u8]) -> Result<(), NoMemory>
 }
 
 /// Adds the last word of a line.
-fn push_last(text: &mut Vec<u8>, word: &[u8]) -> Result<(), NoMemory>
+pub fn push_last(text: &mut Vec<u8>, word: &[u8]) -> Result<(), NoMemory>
     ensures { OnOk result (text.new.items ≡ text.old.items ++ ended word.now) }
 {
     text.extend_from_slice(word)?;
     text.push(b'\n')?;
     Ok(())
-}
-
-/// The word at a place; nothing behind the last one.
-fn word_at(words: &[Bytes], place: usize) -> &[u8]
-    ensures { result.now ≡ unwrap_or (slice_get words.now place) [] }
-{
-    match words.get(place) {
-        Some(word) => word.as_slice(),
-        None => &[],
-    }
-}
-
-/// The printed name of a symbol.
-fn symbol_word<'a>(tokens: &'a [Bytes], sheet: &'a Sheet, symbol: Sym) -> &'a [u8]
-    requires { tokens.now ≡ token_names sheet.now }
-    ensures { result.now ≡ symbol_text sheet.now symbol }
-{
-    match symbol {
-        Sym::Token(token) => word_at(tokens, token.0 as usize),
-        Sym::Name(name) => word_at(sheet.names(), name.0 as usize),
-    }
 }
 
 /// Adds a pattern between slashes, which ends a line.
@@ -94,22 +73,6 @@ fn push_decls(text: &mut Vec<u8>, alloc: Global, decls: &[Decl]) -> Result<(), N
 {
     for decl in decls {
         push_decl(text, alloc, decl)?;
-    }
-    Ok(())
-}
-
-/// Adds the symbols of a right side.
-fn push_symbols(
-    text: &mut Vec<u8>,
-    tokens: &[Bytes],
-    sheet: &Sheet,
-    symbols: &[Sym],
-) -> Result<(), NoMemory>
-    requires { tokens.now ≡ token_names sheet.now }
-    ensures { OnOk result (text.new.items ≡ text.old.items ++ flat_map spaced (map (symbol_text sheet.now) symbols.now)) }
-{
-    for symbol in symbols {
-        push_word(text, symbol_word(tokens, sheet, *symbol))?;
     }
     Ok(())
 }
@@ -167,24 +130,8 @@ fn push_marks(text: &mut Vec<u8>, places: &[u32]) -> Result<(), NoMemory>
     Ok(())
 }
 
-/// Adds the beginning of a rule's line, up to its template.
-fn push_head(
-    text: &mut Vec<u8>,
-    tokens: &[Bytes],
-    sheet: &Sheet,
-    rule: &Rule,
-) -> Result<(), NoMemory>
-    requires { tokens.now ≡ token_names sheet.now }
-    ensures { OnOk result (text.new.items ≡ text.old.items ++ head_text sheet.now rule.now) }
-{
-    push_word(text, symbol_word(tokens, sheet, Sym::Name(rule.left)))?;
-    push_word(text, b":")?;
-    push_symbols(text, tokens, sheet, &rule.right)?;
-    push_word(text, b"{")
-}
-
 /// Adds the rest of a rule's line.
-fn push_tail(text: &mut Vec<u8>, template: &[Part], declares: &[u32]) -> Result<(), NoMemory>
+pub fn push_tail(text: &mut Vec<u8>, template: &[Part], declares: &[u32]) -> Result<(), NoMemory>
     ensures { OnOk result (text.new.items ≡ text.old.items ++ tail_text template.now declares.now) }
 {
     push_parts(text, template)?;
@@ -193,64 +140,17 @@ fn push_tail(text: &mut Vec<u8>, template: &[Part], declares: &[u32]) -> Result<
     push_last(text, b";")
 }
 
-/// Adds a rule's line.
-fn push_rule(
-    text: &mut Vec<u8>,
-    tokens: &[Bytes],
-    sheet: &Sheet,
-    rule: &Rule,
-    template: &[Part],
-    declares: &[u32],
-) -> Result<(), NoMemory>
-    requires { tokens.now ≡ token_names sheet.now }
-    ensures { OnOk result (text.new.items ≡ text.old.items ++ rule_text sheet.now rule.now template.now declares.now) }
-{
-    push_head(text, tokens, sheet, rule)?;
-    push_tail(text, template, declares)
-}
-
-/// Adds the line of the rule of this number.
-fn push_rule_of(
-    text: &mut Vec<u8>,
-    tokens: &[Bytes],
-    sheet: &Sheet,
-    number: u32,
-) -> Result<(), NoMemory>
-    requires tokens { tokens.now ≡ token_names sheet.now }
-    requires rule { number < length sheet.now.grammar.rules }
-    ensures { OnOk result ((words : List (List ℕ)) → slice_get (rule_lines sheet.now sheet.now.grammar.rules sheet.now.templates sheet.now.declares) number ≡ Some words → text.new.items ≡ text.old.items ++ line_text words) }
-{
-    let rule = &sheet.grammar().rules()[number as usize];
-    let template = sheet.template(RuleId(number));
-    let declares = sheet.declares(RuleId(number));
-    push_rule(text, tokens, sheet, rule, template, declares)
-}
-
-/// Adds the rules' lines.
-fn push_rules(text: &mut Vec<u8>, tokens: &[Bytes], sheet: &Sheet) -> Result<(), NoMemory>
-    requires { tokens.now ≡ token_names sheet.now }
-    ensures { OnOk result (text.new.items ≡ text.old.items ++ flat_map line_text (rule_lines sheet.now sheet.now.grammar.rules sheet.now.templates sheet.now.declares)) }
-{
-    for number in 0..sheet.rule_count() {
-        push_rule_of(text, tokens, sheet, number)?;
-    }
-    Ok(())
-}
-
 /// The normal layout of a sheet: its declarations, its start, and each rule with its template and its marks on a line of
 /// its own, with one space between the words. Where it has at most 262,144 bytes, it reads as this sheet.
 pub fn print_sheet(alloc: Global, sheet: &Sheet) -> Result<Vec<u8>, NoMemory>
     ensures { IfOk result (λ text. text.items ≡ layout sheet.now) }
 {
     let tokens = sheet.token_texts()?;
+    let printer = Printer::new(sheet, &tokens);
     let mut text = Vec::new(alloc);
     push_decls(&mut text, alloc, sheet.decls())?;
-    push_word(&mut text, b"%start")?;
-    push_last(
-        &mut text,
-        symbol_word(&tokens, sheet, Sym::Name(sheet.grammar().start())),
-    )?;
+    printer.push_start(&mut text)?;
     push_last(&mut text, b"%%")?;
-    push_rules(&mut text, &tokens, sheet)?;
+    printer.push_rules(&mut text)?;
     Ok(text)
 }

@@ -1,7 +1,7 @@
 //! The order in which a sheet's patterns are scanned.
-ghost use Rattle.std.specs.Prelude.{◌≡◌, ◌+◌, ◌≤◌, List, [], ◌∷◌, ◌++◌, length, All, OnOk};
+ghost use Rattle.std.specs.Prelude.{◌≡◌, ◌+◌, ◌≤◌, [], ◌∷◌, ◌++◌, length, All, IfOk, OnOk};
 ghost use Rattle.sheet_theory.specs.Names.{declared_names};
-ghost use Rattle.sheet_theory.specs.ScanOrder.{Ranked, ranked_literal, declared_literals, unnamed_literals, declared_patterns};
+ghost use Rattle.sheet_theory.specs.ScanOrder.{ranked_literal, declared_literals, unnamed_literals, declared_patterns};
 ghost use Rattle.sheet_reader.specs.WellFormed.{IsLiteralText, IsOrdinaryDecl};
 ghost use Rattle.sheet_reader.specs.Ranking.{Ranks};
 
@@ -11,6 +11,9 @@ use pattern_data::{Meaning, Pattern, PatternFault};
 use sheet_data::{Bytes, Decl};
 use std::alloc::Global;
 
+/// Patterns in order of rank, each with what its string is.
+pub type Ranking = Vec<(Pattern, Meaning)>;
+
 /// Patterns in order of rank, and what the string of each is.
 #[derive(Debug, Drop)]
 pub struct ScanOrder {
@@ -19,36 +22,37 @@ pub struct ScanOrder {
 }
 
 impl ScanOrder {
-    pub fn new(alloc: Global) -> ScanOrder
-        ensures { Ranks result [] }
+    /// The patterns and the meanings of a ranking, each for themselves.
+    pub(crate) fn of_ranking(alloc: Global, ranking: Ranking) -> Result<ScanOrder, NoMemory>
+        ensures { IfOk result (λ order. Ranks order ranking.items) }
     {
-        ScanOrder {
-            patterns: Vec::new(alloc),
-            means: Vec::new(alloc),
+        let mut patterns = Vec::with_capacity(alloc, ranking.len())?;
+        let mut means = Vec::with_capacity(alloc, ranking.len())?;
+        for (pattern, meaning) in ranking {
+            patterns.push(pattern)?;
+            means.push(meaning)?;
         }
+        Ok(ScanOrder { patterns, means })
     }
+}
 
-    /// Ranks a pattern behind the others. After an error the order isn't used.
-    fn push(&mut self, pattern: Pattern, meaning: Meaning) -> Result<(), NoMemory>
-        ensures { OnOk result ((ranked : List Ranked) → Ranks self.old ranked → Ranks self.new (ranked ++ (pattern, meaning) ∷ [])) }
-    {
-        self.patterns.push(pattern)?;
-        self.means.push(meaning)?;
-        Ok(())
-    }
-
-    /// Ranks the literal of a token behind the others. After an error the order isn't used.
-    fn push_literal(&mut self, alloc: Global, token: u32, bytes: &[u8]) -> Result<(), NoMemory>
-        requires { IsLiteralText bytes.now }
-        ensures { OnOk result ((ranked : List Ranked) → Ranks self.old ranked → Ranks self.new (ranked ++ ranked_literal token bytes.now ∷ [])) }
-    {
-        let pattern = match Pattern::literal(alloc, bytes) {
-            Ok(pattern) => pattern,
-            Err(PatternFault::NoMemory) => return Err(NoMemory),
-            Err(PatternFault::Syntax | PatternFault::MatchesEmpty) => unreachable!(),
-        };
-        self.push(pattern, Meaning::Token(TokenId(token)))
-    }
+/// Ranks the literal of a token behind the others.
+fn push_literal(
+    ranking: &mut Ranking,
+    alloc: Global,
+    token: u32,
+    bytes: &[u8],
+) -> Result<(), NoMemory>
+    requires { IsLiteralText bytes.now }
+    ensures { OnOk result (ranking.new.items ≡ ranking.old.items ++ ranked_literal token bytes.now ∷ []) }
+{
+    let pattern = match Pattern::literal(alloc, bytes) {
+        Ok(pattern) => pattern,
+        Err(PatternFault::NoMemory) => return Err(NoMemory),
+        Err(PatternFault::Syntax | PatternFault::MatchesEmpty) => unreachable!(),
+    };
+    ranking.push((pattern, Meaning::Token(TokenId(token))))?;
+    Ok(())
 }
 
 /// The number of the next declared token, behind a declaration where the next one has this number.
@@ -64,29 +68,29 @@ fn next_token(token: u32, decl: &Decl) -> u32
 
 /// Ranks the literal of a declaration, which declares the token of this number, behind the others.
 fn rank_literal(
-    order: &mut ScanOrder,
+    ranking: &mut Ranking,
     alloc: Global,
     token: u32,
     decl: &Decl,
 ) -> Result<(), NoMemory>
     requires { IsOrdinaryDecl decl.now }
-    ensures { OnOk result ((ranked : List Ranked) → Ranks order.old ranked → Ranks order.new (ranked ++ declared_literals token (decl.now ∷ []))) }
+    ensures { OnOk result (ranking.new.items ≡ ranking.old.items ++ declared_literals token (decl.now ∷ [])) }
 {
     match decl {
-        Decl::Literal { bytes, .. } => order.push_literal(alloc, token, bytes.as_slice()),
+        Decl::Literal { bytes, .. } => push_literal(ranking, alloc, token, bytes.as_slice()),
         Decl::Matched { .. } | Decl::Skip { .. } => Ok(()),
     }
 }
 
 /// Ranks the declared literals behind the others.
-pub fn rank_literals(order: &mut ScanOrder, alloc: Global, decls: &[Decl]) -> Result<(), NoMemory>
+pub fn rank_literals(ranking: &mut Ranking, alloc: Global, decls: &[Decl]) -> Result<(), NoMemory>
     requires each { All IsOrdinaryDecl decls.now }
     requires few { length (declared_names decls.now) ≤ 250 }
-    ensures { OnOk result ((ranked : List Ranked) → Ranks order.old ranked → Ranks order.new (ranked ++ declared_literals 0 decls.now)) }
+    ensures { OnOk result (ranking.new.items ≡ ranking.old.items ++ declared_literals 0 decls.now) }
 {
     let mut token = 0;
     for decl in decls {
-        rank_literal(order, alloc, token, decl)?;
+        rank_literal(ranking, alloc, token, decl)?;
         token = next_token(token, decl);
     }
     Ok(())
@@ -94,18 +98,18 @@ pub fn rank_literals(order: &mut ScanOrder, alloc: Global, decls: &[Decl]) -> Re
 
 /// Ranks literals without a name behind the others; the first of them is the token of this number.
 pub fn rank_unnamed(
-    order: &mut ScanOrder,
+    ranking: &mut Ranking,
     alloc: Global,
     first: u32,
     literals: &[Bytes],
 ) -> Result<(), NoMemory>
     requires each { All IsLiteralText literals.now }
     requires few { first + length literals.now ≤ 250 }
-    ensures { OnOk result ((ranked : List Ranked) → Ranks order.old ranked → Ranks order.new (ranked ++ unnamed_literals first literals.now)) }
+    ensures { OnOk result (ranking.new.items ≡ ranking.old.items ++ unnamed_literals first literals.now) }
 {
     let mut token = first;
     for bytes in literals {
-        order.push_literal(alloc, token, bytes.as_slice())?;
+        push_literal(ranking, alloc, token, bytes.as_slice())?;
         token += 1;
     }
     Ok(())
@@ -113,33 +117,36 @@ pub fn rank_unnamed(
 
 /// Ranks the pattern of a declaration behind the others; the next declared token has this number.
 fn rank_pattern(
-    order: &mut ScanOrder,
+    ranking: &mut Ranking,
     alloc: Global,
     token: u32,
     decl: &Decl,
 ) -> Result<(), NoMemory>
-    ensures { OnOk result ((ranked : List Ranked) → Ranks order.old ranked → Ranks order.new (ranked ++ declared_patterns token (decl.now ∷ []))) }
+    ensures { OnOk result (ranking.new.items ≡ ranking.old.items ++ declared_patterns token (decl.now ∷ [])) }
 {
     match decl {
         Decl::Literal { .. } => Ok(()),
         Decl::Matched { pattern, .. } => {
-            order.push(
-                copy_pattern(alloc, pattern)?,
-                Meaning::Token(TokenId(token)),
-            )
+            let copy = copy_pattern(alloc, pattern)?;
+            ranking.push((copy, Meaning::Token(TokenId(token))))?;
+            Ok(())
         }
-        Decl::Skip { pattern } => order.push(copy_pattern(alloc, pattern)?, Meaning::Skip),
+        Decl::Skip { pattern } => {
+            let copy = copy_pattern(alloc, pattern)?;
+            ranking.push((copy, Meaning::Skip))?;
+            Ok(())
+        }
     }
 }
 
 /// Ranks the declared patterns, skips among them, behind the others.
-pub fn rank_patterns(order: &mut ScanOrder, alloc: Global, decls: &[Decl]) -> Result<(), NoMemory>
+pub fn rank_patterns(ranking: &mut Ranking, alloc: Global, decls: &[Decl]) -> Result<(), NoMemory>
     requires { length (declared_names decls.now) ≤ 250 }
-    ensures { OnOk result ((ranked : List Ranked) → Ranks order.old ranked → Ranks order.new (ranked ++ declared_patterns 0 decls.now)) }
+    ensures { OnOk result (ranking.new.items ≡ ranking.old.items ++ declared_patterns 0 decls.now) }
 {
     let mut token = 0;
     for decl in decls {
-        rank_pattern(order, alloc, token, decl)?;
+        rank_pattern(ranking, alloc, token, decl)?;
         token = next_token(token, decl);
     }
     Ok(())

@@ -186,10 +186,11 @@ impl Sheet {
         ensures tokens { IfOk result (λ order. token_count order.means.items ≡ self.now.grammar.tokens) }
     {
         let alloc = *self.decls.allocator();
-        let mut order = ScanOrder::new(alloc);
-        rank_literals(&mut order, alloc, &self.decls)?;
-        rank_unnamed(&mut order, alloc, self.declared_tokens(), &self.literals)?;
-        rank_patterns(&mut order, alloc, &self.decls)?;
+        let mut ranking = Vec::new(alloc);
+        rank_literals(&mut ranking, alloc, &self.decls)?;
+        rank_unnamed(&mut ranking, alloc, self.declared_tokens(), &self.literals)?;
+        rank_patterns(&mut ranking, alloc, &self.decls)?;
+        let order = ScanOrder::of_ranking(alloc, ranking)?;
         Ok(order)
     }
 }

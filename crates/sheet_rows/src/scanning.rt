@@ -1,6 +1,6 @@
 //! Rows of the longest match, of a text's lines and of the tokens of some of them.
 ghost use Rattle.std.specs.Prelude.{◌<◌, IfOk};
-ghost use Rattle.token_patterns.specs.Build.{CanBuild};
+ghost use Rattle.scanning_theory.specs.Scannable.{IsScannable};
 
 use crate::reading::LETS;
 use grammar_data::{Place, Token, TokenId};
@@ -90,7 +90,7 @@ static MATCHES: [MatchRow; 9] = [
 
 /// The patterns, where a scanner can be built of them.
 fn scannable(alloc: Global, patterns: Vec<Pattern>) -> Result<Vec<Pattern>, Fail>
-    ensures { IfOk result (λ found. CanBuild found.items) }
+    ensures { IfOk result (λ found. IsScannable found.items) }
 {
     if can_build(alloc, &patterns)? {
         Ok(patterns)

@@ -11,6 +11,7 @@ use Rattle.position_theory.specs.States.{HaveSameSet}
 use Rattle.position_theory.proofs.MatchLemmas.{match_ends, ends_match, one_some}
 use Rattle.position_theory.proofs.StateLemmas.{same_step, front_reaches, get_at}
 use Rattle.scanning_theory.specs.Scan.{IsMatch, HasNoMatch, IsLongest}
+use Rattle.scanning_theory.specs.declared.limits.TheConstants.{PATTERNS}
 use Rattle.token_patterns.specs.Ahead.{no_rank}
 use Rattle.token_patterns.specs.Scanner.{Table, IsStep, IsEnding, IsEnd, IsScannerOf, IsTable, EndsMatch}
 
@@ -65,7 +66,7 @@ module _ (table : Table) (patterns : List Pattern) (s : IsScannerOf table patter
   best_none n (Some found) none (m, longest, least) =
       (m, λ len rank below other. ⊎_elim (λ less. longest len rank (omega arith) other) (λ upper. let same : len ≡ n + 1 = omega arith in absurd (none rank (subst (λ l. IsMatch patterns text from l rank) same other))) (cases_lt len (n + 1)), least)
 
-  module _ (n state : ℕ) (inside : from + (n + 1) ≤ length text) (r : IsRead table patterns s (read_of text from (n + 1)) state) (few : table.ranks ≤ 300) where
+  module _ (n state : ℕ) (inside : from + (n + 1) ≤ length text) (r : IsRead table patterns s (read_of text from (n + 1)) state) (few : table.ranks ≤ PATTERNS) where
     end_here : IsEnd patterns (r.word) (slice_index table.ends state)
     end_here = s.ends state r.word (let below = slice_get_within s.words state r.word r.at in let size = s.states_are in omega (arith, below, size)) r.at
 

@@ -15,7 +15,7 @@ use Rattle.position_sets.specs.declared.following.Position.{Position}
 use Rattle.position_sets.specs.Joints.{AreJoint}
 use Rattle.position_sets.specs.Sets.{Has, IsSetOfWords, has_place}
 use Rattle.token_patterns.specs.Ahead.{IsBehindOne, IsFirstRank, no_rank}
-use Rattle.token_patterns.specs.declared.limits.TheConstants.{PATTERNS}
+use Rattle.scanning_theory.specs.declared.limits.TheConstants.{PATTERNS, STATES}
 use Rattle.token_patterns.specs.Scanner.{Table, IsStep, IsEnd, AreSteps, IsScannerOf, IsTable}
 use Rattle.token_patterns.specs.Searching.{words_of, AreFound, IsSearch, IsAheadOf, IsSearchAt, IsSearchBefore, IsFoundOrAdded}
 use Rattle.token_patterns.proofs.KeyLemmas.{length_words}
@@ -152,8 +152,8 @@ module _ (patterns : List Pattern) (size : ℕ) (keys : List (Vec ℕ)) (cells e
     ends = done.search.ends_are;
   }
 
-  pub not_more_states : HasMoreStates patterns 20000 → ⊥
-  not_more_states more = let above = (more_states patterns done.search.words 20000 are_states).0 more in omega (arith, above, words_count, done.few)
+  pub not_more_states : HasMoreStates patterns STATES → ⊥
+  not_more_states more = let above = (more_states patterns done.search.words STATES are_states).0 more in omega (arith, above, words_count, done.few)
 
 -- ---- what a scanner may keep
 module _ (patterns : List Pattern) (table : Table) (s : IsScannerOf table patterns) (sized : length table.cells ≡ 256 * length table.ends) (few : length patterns ≤ PATTERNS) where

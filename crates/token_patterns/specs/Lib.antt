@@ -1,8 +1,8 @@
 pub mod Ahead
-pub mod Build
 pub mod Scanner
 pub mod Searching
 pub use Rattle.pattern_data.specs.Bytes as Bytes
 pub use Rattle.pattern_data.specs.Language as Language
 pub use Rattle.position_theory.specs.States as States
 pub use Rattle.scanning_theory.specs.Scan as Scan
+pub use Rattle.scanning_theory.specs.Scannable as Scannable

@@ -3,7 +3,7 @@ use Rattle.std.specs.Prelude.{◌≡◌, ◌≢◌, ℕ, ◌*◌, ◌/◌, ◌%�
 use Rattle.pattern_data.specs.declared.pattern.Pattern.{Pattern}
 use Rattle.position_theory.specs.Positions.{ReachesOne, Ends}
 use Rattle.position_theory.specs.States.{HaveSameSet, AreStates}
-use Rattle.token_patterns.specs.declared.limits.TheConstants.{PATTERNS}
+use Rattle.scanning_theory.specs.declared.limits.TheConstants.{PATTERNS}
 use Rattle.token_patterns.specs.Ahead.{no_rank}
 
 -- the cell of a state and a byte is number 256 * state + byte

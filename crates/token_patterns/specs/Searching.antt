@@ -7,6 +7,7 @@ use Rattle.position_theory.specs.States.{AreBytes, IsAhead}
 use Rattle.position_sets.specs.declared.following.Position.{Position}
 use Rattle.position_sets.specs.Joints.{AreJoint}
 use Rattle.position_sets.specs.Sets.{Has, IsSetOfWords, has_place}
+use Rattle.scanning_theory.specs.declared.limits.TheConstants.{PATTERNS, POSITIONS, STATES}
 use Rattle.token_patterns.specs.Ahead.{IsMaskOf}
 use Rattle.token_patterns.specs.Scanner.{AreSteps, AreEnds, IsEnding}
 
@@ -75,12 +76,12 @@ pub record IsSetting (patterns : List Pattern) (size : ℕ) (positions : List Po
   pub masks_are : (byte : ℕ) (mask : Vec ℕ) → slice_get masks byte ≡ Some mask → IsMaskOf positions byte mask.items
   pub mask_sets : (byte : ℕ) (mask : Vec ℕ) → slice_get masks byte ≡ Some mask → IsSetOfWords size mask.items
   pub mask_count : length masks ≡ 256
-  pub few_patterns : length patterns ≤ 300
-  pub few_positions : count_all patterns ≤ 5000
+  pub few_patterns : length patterns ≤ PATTERNS
+  pub few_positions : count_all patterns ≤ POSITIONS
 
 -- the search before it looks at a state
 pub record IsSearchBefore (patterns : List Pattern) (size : ℕ) (keys : List (Vec ℕ)) (cells ends : List ℕ) (state : ℕ) : Type 0 where
   pub search : IsSearch patterns size (words_of keys) cells ends
   pub cells_are : length cells ≡ 256 * state
   pub ends_count : length ends ≡ state
-  pub few : length keys ≤ 20000
+  pub few : length keys ≤ STATES

@@ -2,6 +2,7 @@
 ghost use Rattle.std.specs.Prelude.{◌≡◌, ℕ, ◌+◌, ◌*◌, ◌<◌, ◌≤◌, ◌↔◌, ◌⊎◌, false, length, slice_get, Some, IfOk};
 ghost use Rattle.position_sets.specs.declared.following.Position.{Position as Row};
 ghost use Rattle.position_sets.specs.Sets.{Has, IsSetOfWords, has_place};
+ghost use Rattle.scanning_theory.specs.declared.limits.TheConstants.{PATTERNS, POSITIONS};
 ghost use Rattle.token_patterns.specs.Ahead.{IsBehindOne, IsBehindOneBelow, IsFirstRank};
 
 use position_sets::{Position, has, no_places, union};
@@ -80,8 +81,8 @@ fn add_behind(ahead: &mut Vec<u64>, set: &[u64], place: usize, position: &Positi
 
 /// The least rank whose place is in the set; that of rank k is place `ends + k`.
 pub fn first_rank(set: &[u64], ends: usize, ranks: usize) -> u16
-    requires few { ranks ≤ 300 }
-    requires small { ends ≤ 5000 }
+    requires few { ranks ≤ PATTERNS }
+    requires small { ends ≤ POSITIONS }
     ensures { IsFirstRank set.now ends ranks result }
 {
     for rank in 0..ranks {

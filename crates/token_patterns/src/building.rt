@@ -5,7 +5,8 @@ ghost use Rattle.position_theory.specs.States.{HasMoreStates};
 ghost use Rattle.position_sets.specs.declared.following.Position.{Position as Row};
 ghost use Rattle.position_sets.specs.Sets.{Has, IsSetOfWords};
 ghost use Rattle.token_patterns.specs.Ahead.{IsBehindOne};
-ghost use Rattle.token_patterns.specs.Build.{CanBuild};
+ghost use Rattle.scanning_theory.specs.declared.limits.TheConstants.{STATES};
+ghost use Rattle.scanning_theory.specs.Scannable.{IsScannable};
 ghost use Rattle.token_patterns.specs.Searching.{IsSearchBefore, IsSetting, words_of};
 
 use crate::ahead::{ahead_of, first_rank};
@@ -79,25 +80,23 @@ fn expand(
     requires search { IsSearchBefore patterns.now size search.old.sets.keys search.old.cells.items search.old.ends.items state }
     ensures search { IfOk result (λ _. IsSearchBefore patterns.now size search.new.sets.keys search.new.cells.items search.new.ends.items (state + 1)) }
     ensures inside { IfOk result (λ _. state < length search.new.sets.keys) }
-    ensures many { IfErr result (λ fault. fault ≡ ScannerFault.TooManyStates → HasMoreStates patterns.now 20000) }
+    ensures many { IfErr result (λ fault. fault ≡ ScannerFault.TooManyStates → HasMoreStates patterns.now STATES) }
 {
     let ahead = ahead_at(alloc, joint, &search.sets, state, size)?;
     let end = first_rank(&ahead, joint.positions.len(), patterns.len());
     search.ends.push(end)?;
     for mask in masks {
-        match step(alloc, &mut search.sets, &ahead, mask) {
-            Ok(cell) => search.cells.push(cell)?,
-            Err(fault) => return Err(fault),
-        }
+        let cell = step(alloc, &mut search.sets, &ahead, mask)?;
+        search.cells.push(cell)?;
     }
     Ok(())
 }
 
 /// All states of the patterns, with their cells and ends.
 pub fn search_states(alloc: Global, patterns: &[Pattern]) -> Result<Search, ScannerFault>
-    requires { CanBuild patterns.now }
+    requires { IsScannable patterns.now }
     ensures search { IfOk result (λ search. (size : ℕ) × IsSearchBefore patterns.now size search.sets.keys search.cells.items search.ends.items (length search.sets.keys)) }
-    ensures many { IfErr result (λ fault. fault ≡ ScannerFault.TooManyStates → HasMoreStates patterns.now 20000) }
+    ensures many { IfErr result (λ fault. fault ≡ ScannerFault.TooManyStates → HasMoreStates patterns.now STATES) }
 {
     let count = count_together(patterns);
     let size = (count + patterns.len()) / 64 + 1;
@@ -106,10 +105,8 @@ pub fn search_states(alloc: Global, patterns: &[Pattern]) -> Result<Search, Scan
     let mut search = first_search(alloc, size)?;
     let mut state = 0;
     while state < search.sets.len() {
-        match expand(alloc, patterns, &joint, &masks, size, &mut search, state) {
-            Ok(()) => state += 1,
-            Err(fault) => return Err(fault),
-        }
+        expand(alloc, patterns, &joint, &masks, size, &mut search, state)?;
+        state += 1;
     }
     Ok(search)
 }

@@ -3,19 +3,21 @@ ghost use Rattle.std.specs.Prelude.{◌≡◌, ◌↔◌, ◌≤◌, ℕ, [], le
 ghost use Rattle.pattern_data.specs.declared.pattern.Pattern.{Pattern};
 ghost use Rattle.pattern_data.specs.Language.{Matches};
 ghost use Rattle.position_theory.specs.Positions.{count_all};
-ghost use Rattle.token_patterns.specs.Build.{CanBuild};
+ghost use Rattle.scanning_theory.specs.declared.limits.TheConstants.{POSITIONS};
+ghost use Rattle.scanning_theory.specs.Scannable.{IsScannable};
 
-use crate::limits::{PATTERNS, POSITIONS};
+use lr_base::NoMemory;
 use pattern_data::Pattern;
 use position_sets::{begin_of, count_together};
-use std::alloc::{AllocError, Global};
+use scanning_theory::{PATTERNS, POSITIONS};
+use std::alloc::Global;
 
-/// How many words a set of all positions takes.
-const WORDS: usize = 79;
+/// How many words of 64 bits a set of all positions takes.
+const WORDS: usize = POSITIONS / 64 + 1;
 
 /// Whether the patterns keep the limits and none has the empty string, so that a scanner can be built of them.
-pub fn can_build(alloc: Global, patterns: &[Pattern]) -> Result<bool, AllocError>
-    ensures { IfOk result (λ can. IsTrue can ↔ CanBuild patterns.now) }
+pub fn can_build(alloc: Global, patterns: &[Pattern]) -> Result<bool, NoMemory>
+    ensures { IfOk result (λ can. IsTrue can ↔ IsScannable patterns.now) }
 {
     if patterns.len() > PATTERNS {
         return Ok(false);
@@ -27,8 +29,8 @@ pub fn can_build(alloc: Global, patterns: &[Pattern]) -> Result<bool, AllocError
 }
 
 /// Whether none of the patterns has the empty string.
-fn none_empty(alloc: Global, patterns: &[Pattern]) -> Result<bool, AllocError>
-    requires { count_all patterns.now ≤ 5000 }
+fn none_empty(alloc: Global, patterns: &[Pattern]) -> Result<bool, NoMemory>
+    requires { count_all patterns.now ≤ POSITIONS }
     ensures { IfOk result (λ none. IsTrue none ↔ All (λ pattern. ¬ (Matches pattern [])) patterns.now) }
 {
     for pattern in patterns {

@@ -2,8 +2,8 @@ ghost use Rattle.std.specs.Prelude.{◌≡◌, ℕ, ◌+◌, ◌*◌, ◌<◌, �
 ghost use Rattle.pattern_data.specs.declared.pattern.Pattern.{Pattern};
 ghost use Rattle.position_theory.specs.States.{HasMoreStates};
 ghost use Rattle.scanning_theory.specs.Scan.{HasNoMatch, IsLongest};
-ghost use Rattle.token_patterns.specs.declared.limits.TheConstants.{STATES};
-ghost use Rattle.token_patterns.specs.Build.{CanBuild};
+ghost use Rattle.scanning_theory.specs.declared.limits.TheConstants.{STATES};
+ghost use Rattle.scanning_theory.specs.Scannable.{IsScannable};
 ghost use Rattle.token_patterns.specs.Scanner.{EndsMatch, IsScannerOf, ranks_of};
 
 use crate::ahead::NO_RANK;
@@ -41,27 +41,23 @@ impl Model for Scanner {
 impl Scanner {
     /// The scanner of these patterns; `TooManyStates` exactly where they have more than 20,000 scanner states.
     pub fn build(alloc: Global, patterns: &[Pattern]) -> Result<Scanner, ScannerFault>
-        requires { CanBuild patterns.now }
+        requires { IsScannable patterns.now }
         ensures scanner { IfOk result (λ scanner. IsScannerOf scanner patterns.now) }
         ensures ranks { IfOk result (λ scanner. ranks_of scanner ≡ length patterns.now) }
         ensures few { IfOk result (λ _. ¬ (HasMoreStates patterns.now STATES)) }
         ensures many { IfErr result (λ fault. fault ≡ ScannerFault.TooManyStates → HasMoreStates patterns.now STATES) }
     {
-        match search_states(alloc, patterns) {
-            Ok(search) => {
-                let Search {
-                    sets: _,
-                    cells,
-                    ends,
-                } = search;
-                Ok(Scanner {
-                    cells,
-                    ends,
-                    ranks: patterns.len(),
-                })
-            }
-            Err(fault) => Err(fault),
-        }
+        let search = search_states(alloc, patterns)?;
+        let Search {
+            sets: _,
+            cells,
+            ends,
+        } = search;
+        Ok(Scanner {
+            cells,
+            ends,
+            ranks: patterns.len(),
+        })
     }
 
     /// The longest match at a place of the text: its length, and the least rank that has it. It takes no memory, and

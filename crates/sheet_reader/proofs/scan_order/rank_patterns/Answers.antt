@@ -1,6 +1,6 @@
 use Rattle.sheet_theory.specs.ScanOrder.{declared_patterns}
 use Rattle.std.proofs.Common.{◌+◌, [], ◌∷◌, take, arith}
-use Rattle.sheet_reader.proofs.RankLemmas.{ranks_both, names_next, patterns_next, few_names}
+use Rattle.sheet_reader.proofs.RankLemmas.{ranked_both, names_next, patterns_next, few_names}
 use Rattle.sheet_reader.proofs.scan_order.rank_patterns.Goals as goal
 
 pub next_token-token-requires : goal.next_token-token-requires
@@ -16,5 +16,5 @@ loop-decl-preserved c =
     let token = c.loop-decl.token in
     record {
       token = names_next decls i token c.next_token-token.result decl c.loop-decl-test.true c.decl-item.is c.loop-decl.invariant.token c.next_token-token.ensures;
-      ranks = ranks_both c.args.order.now c.loop-decl.order c.rank_pattern.new.order (declared_patterns 0 (take i decls)) (declared_patterns token (decl ∷ [])) (declared_patterns 0 (take (i + 1) decls)) c.loop-decl.invariant.ranks c.in_ok-rank_pattern.ensures (patterns_next decls i token decl c.loop-decl-test.true c.decl-item.is c.loop-decl.invariant.token);
+      ranked = ranked_both c.args.ranking.now.items c.loop-decl.ranking.items c.rank_pattern.new.ranking.items (declared_patterns 0 (take i decls)) (declared_patterns token (decl ∷ [])) (declared_patterns 0 (take (i + 1) decls)) c.loop-decl.invariant.ranked c.in_ok-rank_pattern.ensures (patterns_next decls i token decl c.loop-decl-test.true c.decl-item.is c.loop-decl.invariant.token);
     }

@@ -1,4 +1,5 @@
 use Rattle.std.proofs.Common.{◌-◌, ◌≤◌, length}
+use Rattle.scanning_theory.specs.declared.limits.TheConstants.{STATES}
 use Rattle.token_patterns.specs.Searching.{IsSearchBefore}
 use Rattle.token_patterns.proofs.building.search_states.Given as goal
 
@@ -9,4 +10,4 @@ invariant-loop-state l = record {
 }
 
 abbrev pub decreases-loop-state : goal.decreases-loop-state
-decreases-loop-state l = 20000 - l.state
+decreases-loop-state l = STATES - l.state

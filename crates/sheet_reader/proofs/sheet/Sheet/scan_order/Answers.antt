@@ -1,8 +1,8 @@
-use Rattle.std.proofs.Common.{[], length, sym, ap, subst, ◌∙◌, arith}
+use Rattle.std.proofs.Common.{◌++◌, length, sym, ap, subst, ◌∙◌, arith}
 use Rattle.std.specs.Prelude.{All}
 use Rattle.sheet_data.specs.Sheet.{Sheet}
 use Rattle.sheet_theory.specs.Names.{declared_names}
-use Rattle.sheet_theory.specs.ScanOrder.{scan_order}
+use Rattle.sheet_theory.specs.ScanOrder.{scan_order, declared_literals, unnamed_literals, declared_patterns}
 use Rattle.sheet_reader.specs.WellFormed.{IsOrdinaryDecl, IsLiteralText, IsWellFormed}
 use Rattle.sheet_reader.specs.Ranking.{IsScannable, token_count, Ranks}
 use Rattle.sheet_reader.proofs.RankLemmas.{scannable, all_tokens, order_ranked, one_meaning_each}
@@ -23,23 +23,18 @@ rank_unnamed-requires c = record {
 pub rank_patterns-requires : goal.rank_patterns-requires
 rank_patterns-requires c = omega (arith, ap (λ ds. length (declared_names ds)) c.deref-3.ensures.value, c.self.invariant.count)
 
-well_formed : (c : goal.In_ok-rank_patterns) → IsWellFormed c.args.self.now
-well_formed c = subst IsWellFormed c.self.view_is c.self.invariant
-
-all_ranked : (c : goal.In_ok-rank_patterns) → Ranks c.rank_patterns.new.order (scan_order c.args.self.now)
-all_ranked c =
-    let decls = ap (λ (s : Sheet). s.decls) c.self.view_is in
-    let literals = ap (λ (s : Sheet). s.literals) c.self.view_is in
-    order_ranked c.args.self.now c.rank_patterns.new.order c.deref.result.now c.deref-3.result.now c.deref-2.result.now c.declared_tokens.result (c.deref.ensures.value ∙ decls) (c.deref-3.ensures.value ∙ decls) (c.deref-2.ensures.value ∙ literals) c.declared_tokens.ensures (c.in_ok-rank_patterns.ensures _ (c.in_ok-rank_unnamed.ensures _ (c.in_ok-rank_literals.ensures [] c.new-order.ensures)))
-
 pub returns : goal.returns
 returns c =
-    let good = well_formed c in
-    let ranks = all_ranked c in
+    let good = subst IsWellFormed c.self.view_is c.self.invariant in
+    let decls = ap (λ (s : Sheet). s.decls) c.self.view_is in
+    let literals = ap (λ (s : Sheet). s.literals) c.self.view_is in
+    let all = c.in_ok-rank_patterns.ensures ∙ ap (λ l. l ++ declared_patterns 0 c.deref-3.result.now) (c.in_ok-rank_unnamed.ensures ∙ ap (λ l. l ++ unnamed_literals c.declared_tokens.result c.deref-2.result.now) (c.in_ok-rank_literals.ensures ∙ ap (λ l. l ++ declared_literals 0 c.deref.result.now) c.new-ranking.ensures.items)) in
+    let ranked = order_ranked c.args.self.now c.rank_patterns.new.ranking.items c.deref.result.now c.deref-3.result.now c.deref-2.result.now c.declared_tokens.result (c.deref.ensures.value ∙ decls) (c.deref-3.ensures.value ∙ decls) (c.deref-2.ensures.value ∙ literals) c.declared_tokens.ensures all in
+    let ranks = subst (Ranks c.in_ok-order.order) ranked c.in_ok-order.ensures in
     record {
       patterns = ranks.patterns;
       means = ranks.means;
       scannable = subst IsScannable (sym ranks.patterns) (scannable c.args.self.now good);
-      each = one_meaning_each c.rank_patterns.new.order (scan_order c.args.self.now) ranks;
+      each = one_meaning_each c.in_ok-order.order (scan_order c.args.self.now) ranks;
       tokens = ap token_count ranks.means ∙ all_tokens c.args.self.now good;
     }

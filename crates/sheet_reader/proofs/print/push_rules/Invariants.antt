@@ -1,7 +1,0 @@
-use Rattle.std.proofs.Common.{◌≡◌, ◌++◌, take}
-use Rattle.std.specs.List.{flat_map}
-use Rattle.outline_theory.specs.Layout.{line_text, rule_lines}
-use Rattle.sheet_reader.proofs.print.push_rules.Given as goal
-
-abbrev pub invariant-loop-number : goal.invariant-loop-number
-invariant-loop-number l = l.text.items ≡ l.fn.text.items ++ flat_map line_text (take l.number (rule_lines l.sheet l.sheet.grammar.rules l.sheet.templates l.sheet.declares))
