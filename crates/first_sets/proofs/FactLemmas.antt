@@ -24,31 +24,13 @@ use Rattle.first_sets.specs.EmptySizes.{AreKnownBelow, AreSized, IsLeastUnsized,
 use Rattle.first_sets.specs.KnownNames.{AreUses, AreMentions, is_known}
 use Rattle.first_sets.specs.Openings.{AreOpenings, AreReaders, Begins, BeginsIn, IsFilled, IsOpeningOf, IsVisible, PassesOn, opening, set_at}
 use Rattle.first_sets.proofs.KnownLemmas.{true_is, only_of_known, known_of_only, only_weaker}
-use Rattle.first_sets.proofs.ReachLemmas.{rule_of}
+use Rattle.grammar_laws.proofs.RangeLemmas.{in_range, rule_of}
 use Rattle.first_sets.proofs.RoundLemmas.{no_size, some_size}
 
 -- ---- ranges
 
 all_of : {X : Type 0} (P : X → Type 0) (xs : List X) → ((x : X) → Contains xs x → P x) → All P xs
 all_of P xs each k d less = each (get_or xs k d) (Contains-get_or xs k d less)
-
-names_below : (tokens names : ℕ) (xs : List Sym) → All (IsSymbolOf tokens names) xs → NamesBelow names xs
-names_below tokens names [] all = tt
-names_below tokens names (Token a ∷ xs) all = names_below tokens names xs (All-tail (IsSymbolOf tokens names) (Token a) xs all)
-names_below tokens names (Name n ∷ xs) all = (All-head (IsSymbolOf tokens names) (Name n) xs all, names_below tokens names xs (All-tail (IsSymbolOf tokens names) (Name n) xs all))
-
-tokens_below : (tokens names : ℕ) (xs : List Sym) → All (IsSymbolOf tokens names) xs → TokensBelow tokens xs
-tokens_below tokens names [] all = tt
-tokens_below tokens names (Token a ∷ xs) all = (All-head (IsSymbolOf tokens names) (Token a) xs all, tokens_below tokens names xs (All-tail (IsSymbolOf tokens names) (Token a) xs all))
-tokens_below tokens names (Name n ∷ xs) all = tokens_below tokens names xs (All-tail (IsSymbolOf tokens names) (Name n) xs all)
-
-pub in_range : (g : Grammar) → IsGrammar g → IsInRange g
-in_range g is = record {
-  lefts = λ r n right rule. (rule_of g is r n right rule).left;
-  names = λ r n right rule. names_below g.tokens g.names right (rule_of g is r n right rule).right;
-  tokens = λ r n right rule. tokens_below g.tokens g.names right (rule_of g is r n right rule).right;
-  start = is.start;
-}
 
 pub uses_below : (g : Grammar) (pairs : List (ℕ × ℕ)) → IsGrammar g → AreUses g.rules pairs → All (λ pair. pair.0 < g.names) pairs
 uses_below g pairs is uses = all_of (λ pair. pair.0 < g.names) pairs (λ pair has.

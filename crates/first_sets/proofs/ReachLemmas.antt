@@ -15,13 +15,9 @@ use Rattle.first_sets.specs.Relations.{HasPair, IsExtended}
 use Rattle.first_sets.specs.KnownNames.{is_known, AreMentions}
 use Rattle.first_sets.proofs.UseLemmas.{contains_none}
 use Rattle.first_sets.proofs.KnownLemmas.{unmarked, true_is, known_set, set_known, set_itself}
+use Rattle.grammar_laws.proofs.RangeLemmas.{rule_of}
 
 -- a rule of a grammar is in range
-pub rule_of : (g : Grammar) → IsGrammar g → (r n : ℕ) (right : List Sym) → IsRule g.rules r n right → IsRuleOf g.tokens g.names (n, right)
-rule_of g is r n right rule =
-    subst (λ x. IsRuleOf g.tokens g.names x) (get_or_from_slice_get g.rules r (n, right) (n, right) rule.found)
-    (is.rules r (n, right) (slice_get_within g.rules r (n, right) rule.found))
-
 pub led_below : (g : Grammar) → IsGrammar g → (n : ℕ) → IsLedTo g n → n < g.names
 led_below g is n (at_start e) = subst (λ k. k < g.names) (sym e) is.start
 led_below g is n (in_right {m = m} {r = r} {right = right} led rule has) = All-contains (IsSymbolOf g.tokens g.names) right (Name n) (rule_of g is r m right rule).right has

@@ -4,10 +4,10 @@ use Rattle.std.proofs.lemmas.Option.{slice_get_within}
 use Rattle.grammar_data.specs.declared.rule.Sym.{Sym}
 use Rattle.grammar_data.specs.declared.rule.Sym.TheVariants.{Name}
 use Rattle.grammar_data.specs.Grammar.{Grammar}
-use Rattle.grammar_theory.specs.Rules.{IsRule, IsInRange}
+use Rattle.grammar_theory.specs.Rules.{IsInRange}
 use Rattle.grammar_theory.proofs.RuleLemmas.{names_back}
-use Rattle.item_theory.specs.Items.{Item, Dotted, IsValid, augmented_item, all_rules}
-use Rattle.item_theory.specs.Chains.{first_item, Moves, moves, Opens, opens, IsChained, begins, over, into}
+use Rattle.item_theory.specs.Items.{Item, Dotted, IsValid, augmented_item}
+use Rattle.item_theory.specs.Chains.{Moves, moves, Opens, opens, IsChained, begins, over, into}
 use Rattle.item_theory.proofs.ItemLemmas.{WhichRule, is_own, is_last, which_rule, right_names, dotted_once, dotted_first, dotted_moved}
 use Rattle.item_theory.proofs.ChainLemmas.{valid_first, valid_over}
 

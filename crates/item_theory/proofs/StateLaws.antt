@@ -1,5 +1,5 @@
 -- The laws on leading words, states and the search, as they are stated.
-use Rattle.std.proofs.Common.{◌≡◌, List, [], ◌∷◌, ◌++◌, Some, refl, subst, inl, inr, ◌⊎◌}
+use Rattle.std.proofs.Common.{◌≡◌, List, [], ◌∷◌, ◌++◌, subst, inl, inr, ◌⊎◌}
 use Rattle.grammar_data.specs.declared.rule.Sym.{Sym}
 use Rattle.item_theory.specs.LeadingWords.{IsSymBefore, IsWordBefore, TotalLaw, TransitiveLaw, IrreflexiveLaw, PushLaw, LeadingOnceLaw, StepLaw, SameStepLaw, PrefixLaw, StatesOnceLaw, StateCountLaw, LeadingStateLaw, ConflictStateLaw}
 use Rattle.item_theory.specs.Search.{NewWordLaw, SearchBeginLaw, SearchOldLaw, SearchNewLaw, SearchNamesLaw, SearchNextLaw, SearchEndLaw}

@@ -3,18 +3,18 @@
 -- name after the dot is taken with the dot in front, for the same list, its lookahead being the first token of some
 -- token list that is derived from the symbols behind that name followed by the lookahead of the item before.
 -- Source: Knuth, On the Translation of Languages from Left to Right, 1965.
-use Rattle.std.specs.Prelude.{◌≡◌, ℕ, ◌+◌, ◌↔◌, List, [], ◌∷◌, ◌++◌, length}
+use Rattle.std.specs.Prelude.{◌≡◌, ℕ, ◌+◌, ◌↔◌, List, [], ◌∷◌, ◌++◌}
 use Rattle.grammar_data.specs.declared.rule.Sym.{Sym}
 use Rattle.grammar_data.specs.declared.rule.Sym.TheVariants.{Name}
 use Rattle.grammar_data.specs.Grammar.{Grammar}
-use Rattle.grammar_theory.specs.Rules.{IsRule, IsInRange, end_mark}
+use Rattle.grammar_theory.specs.Rules.{IsRule, IsInRange}
 use Rattle.grammar_theory.specs.UsefulNames.{AllProductive}
 use Rattle.grammar_theory.specs.FirstTokens.{Follows, IsFound}
-use Rattle.item_theory.specs.Items.{Item, Dotted, IsValid}
+use Rattle.item_theory.specs.Items.{Item, Dotted, IsValid, augmented_item}
 
 -- the augmented item with the dot in front and the end mark
 abbrev pub first_item : Grammar → Item
-first_item g = record { rule = length g.rules; dot = 0; ahead = end_mark g }
+first_item g = augmented_item g 0
 
 -- the dot of `i` moves over `x`, which gives `j`
 pub data Moves (g : Grammar) (x : Sym) (i j : Item) : Type 0 where

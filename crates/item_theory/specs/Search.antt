@@ -2,13 +2,12 @@
 -- names, and a viable prefix with new items is put last. So the words found are the leading words in their order.
 -- Source: Knuth, On the Translation of Languages from Left to Right, 1965; Aho and Ullman, The Theory of Parsing,
 -- Translation, and Compiling, volume 1, section 5.2.
-use Rattle.std.specs.Prelude.{◌≡◌, ℕ, ◌+◌, ◌<◌, ◌↔◌, ◌⊎◌, Bool, IsTrue, List, [], ◌∷◌, ◌++◌, length, slice_get, Option, Some, None}
+use Rattle.std.specs.Prelude.{◌≡◌, ℕ, ◌+◌, ◌<◌, ◌⊎◌, List, [], ◌∷◌, ◌++◌, length, slice_get, Option, Some, None}
 use Rattle.grammar_data.specs.declared.rule.Sym.{Sym}
 use Rattle.grammar_data.specs.declared.rule.Sym.TheVariants.{Token, Name}
 use Rattle.grammar_data.specs.Grammar.{Grammar}
 use Rattle.grammar_theory.specs.Rules.{IsInRange}
-use Rattle.item_theory.specs.Items.{Item, IsValid, IsViable}
-use Rattle.item_theory.specs.Chains.{Moves, Closure, IsFirstItem, IsMoved}
+use Rattle.item_theory.specs.Items.{IsViable}
 use Rattle.item_theory.specs.LeadingWords.{IsSymBefore, IsWordBefore, IsLeading, HasState, AreLeading, AreStates}
 
 -- the search stands at word `p`, which is `top`, and at the symbol `x`: the words found are leading ones in their order,

@@ -62,7 +62,7 @@ module _ (g : Grammar) (range : IsInRange g) (states : ℕ) (has : ℕ → Item 
       by_move i j is_item (moves n before after dotted e) = (i, is_item, shifts dotted)
 
       shown : ((i : Item) × (j : Item) × IsValid g (get_or collection.words q []) i × Moves g (Token a) i j) → HasDeed g (ItemsOf has q) a to_shift
-      shown (i, j, valid, move) = by_move i j ((collection.items q (get_or collection.words q []) (word_of g states has step collection q less) i).1 valid) move
+      shown (i, j, known, move) = by_move i j ((collection.items q (get_or collection.words q []) (word_of g states has step collection q less) i).1 known) move
 
   token_within : (q p a : ℕ) → q < states → step q (Token a) ≡ Some p → a < g.tokens
   token_within q p a less is = token_below g.tokens a (get_or collection.words q []) [] (prefix_range_law g range (get_or collection.words q [] ++ Token a ∷ []) (viable_along q p (Token a) less is)).1

@@ -5,7 +5,7 @@ use Rattle.std.proofs.lemmas.Option.{slice_get-get_or}
 use Rattle.grammar_data.specs.Grammar.{Rule}
 use Rattle.grammar_theory.specs.Rules.{IsRule}
 use Rattle.first_sets.specs.EmptySizes.{IsRound}
-use Rattle.first_sets.proofs.ReachLemmas.{rule_of}
+use Rattle.grammar_laws.proofs.RangeLemmas.{rule_of}
 use Rattle.first_sets.proofs.RoundLemmas.{round_more}
 use Rattle.first_sets.proofs.empty_size.size_round.Goals as goal
 
