@@ -177,7 +177,7 @@ struct Printed {
 fn print_conflict(alloc: Global, sheet: &Sheet, conflict: &Conflict) -> Result<Printed, NoMemory>
     requires { IsShown sheet.now.grammar conflict.now }
 {
-    let _rules = sheet.grammar().rules();
+    sheet.grammar().holds();
     Ok(Printed {
         whole: conflict_text(alloc, sheet, conflict)?,
         first: item_text(alloc, sheet, &conflict.first)?,
