@@ -2,11 +2,8 @@
 #![tactic(auto)]
 
 mod items;
-mod printer;
 mod tables;
 mod words;
 
 pub use items::{conflict_text, item_text};
-pub use printer::Printer;
-pub use tables::{push_states_line, tables_text};
-pub use words::push_number;
+pub use tables::{push_state, push_states_line, tables_text};

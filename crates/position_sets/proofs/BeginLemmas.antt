@@ -1,7 +1,7 @@
 -- Where patterns begin, from where their parts do.
 use Rattle.std.proofs.Common.{◌≡◌, ℕ, zero, suc, ◌+◌, ◌-◌, ◌<◌, ◌≤◌, ◌↔◌, ◌⊎◌, inl, inr, Bool, true, false, ◌==◌, ◌||◌, List, [], ◌∷◌, length, get_or, drop, refl, sym, ap, ◌∙◌, subst, ⊎_elim, drop-cons, arith}
 use Rattle.std.specs.Prelude.{◌&&◌}
-use Rattle.std.proofs.lemmas.Bool.{false≢true, eq-eqb, eqb-true, or_cases, or_left, or_right, and_from}
+use Rattle.std.proofs.lemmas.Bool.{false≢true, eq-eqb, eqb-true, or_cases, or_left, or_right, and_from, and_parts}
 use Rattle.pattern_data.specs.declared.pattern.Pattern.{Pattern, out-Pattern}
 use Rattle.pattern_data.specs.declared.pattern.Pattern.TheOpen.Pattern-F.{Set, Seq, Alt, Star, Plus, Opt}
 use Rattle.pattern_data.specs.Language.{Matches, MatchesInOrder, positions_of}
@@ -20,11 +20,6 @@ use Rattle.position_theory.proofs.PartLemmas.{first_set, first_sequence, first_c
 use Rattle.position_sets.specs.declared.begin.Begin.{Begin}
 use Rattle.position_sets.specs.Begins.{SomeIsEmpty, IsPlaceOf, IsBeginOf, IsBegin, IsBeginInOrder, IsBeginOfOne}
 use Rattle.position_sets.specs.Sets.{Has, IsSetOfWords, has_place}
-
--- ---- tests
-pub and_split : (a b : Bool) → (a && b) ≡ true → (a ≡ true) × (b ≡ true)
-and_split true b e = (refl, e)
-and_split false b e = absurd (false≢true e)
 
 -- the set of one place
 pub one_place : (words none : List ℕ) (at : ℕ) → ((place : ℕ) → has_place none place ≡ false) → ((place : ℕ) → has_place words place ≡ ((place == at) || has_place none place)) → (place : ℕ) → Has words place ↔ (place ≡ at)
@@ -176,7 +171,7 @@ module _ (p : Pattern) (ps : List Pattern) (base size : ℕ) (member rest begin 
     order_place : (place : ℕ) → (has_place member.first.items place ≡ true) ⊎ ((member.empty && has_place rest.first.items place) ≡ true) → IsPlaceOf (IsFirstInOrder (p ∷ ps)) base place
     order_place place (inl has) = let at = (here.first place).0 has in (count_all ps + at.0, more_place behind.end_is place at.0 at.1, first_in_first at.2 refl)
     order_place place (inr both) =
-        let h = and_split member.empty (has_place rest.first.items place) both in
+        let h = and_parts member.empty (has_place rest.first.items place) both in
         let at = (behind.first place).0 h.1 in
         (at.0, at.1, first_behind (here.empty.0 h.0) at.2)
 
@@ -192,7 +187,7 @@ module _ (p : Pattern) (ps : List Pattern) (base size : ℕ) (member rest begin 
         λ at. places place ∙ order_has place at.0 at.1 at.2,
       );
       empty = (
-        λ e. let h = and_split member.empty rest.empty (sym empty ∙ e) in first_member {u = []} {v = []} (here.empty.0 h.0) (behind.empty.0 h.1) refl,
+        λ e. let h = and_parts member.empty rest.empty (sym empty ∙ e) in first_member {u = []} {v = []} (here.empty.0 h.0) (behind.empty.0 h.1) refl,
         λ strings. let h = order_empty strings refl in empty ∙ and_from member.empty rest.empty (here.empty.1 h.0) (behind.empty.1 h.1),
       );
       end_is = more_end behind.end_is end_is;

@@ -36,19 +36,10 @@ pub fn read_sheet(alloc: Global, bytes: &[u8]) -> Result<Sheet, SheetFault>
     if SHEET_BYTES < bytes.len() {
         return Err(SheetFault::Limit(LimitKind::SheetBytes, SHEET_BYTES as u64 + 1));
     }
-    let outline = match read_outline(alloc, bytes) {
-        Ok(outline) => outline,
-        Err(fault) => return Err(fault),
-    };
-    match check_outline(alloc, &outline) {
-        Ok(()) => {}
-        Err(fault) => return Err(fault),
-    }
+    let outline = read_outline(alloc, bytes)?;
+    check_outline(alloc, &outline)?;
     let decls = decls_of(alloc, &outline.declarations)?;
-    let numbered = match number_outline(alloc, &outline, &decls) {
-        Ok(numbered) => numbered,
-        Err(fault) => return Err(fault),
-    };
+    let numbered = number_outline(alloc, &outline, &decls)?;
     let sheet = Sheet::of_outline(alloc, outline, decls, numbered)?;
     Ok(sheet)
 }

@@ -1,7 +1,7 @@
 -- The search of the states, step by step.
 use Rattle.std.proofs.Common.{◌≡◌, ◌≢◌, ℕ, zero, suc, ◌+◌, ◌*◌, ◌/◌, ◌%◌, ◌<◌, ◌≤◌, ◌↔◌, ◌⊎◌, inl, inr, ⊎_elim, true, false, List, [], ◌∷◌, ◌++◌, length, length-append, drop, refl, sym, ap, ◌∙◌, subst, arith}
 use Rattle.std.specs.Prelude.{◌&&◌, slice_get, slice_index, Some}
-use Rattle.std.proofs.lemmas.Bool.{false≢true, and_from, cases_eq, cases_lt}
+use Rattle.std.proofs.lemmas.Bool.{false≢true, and_from, and_parts, cases_eq, cases_lt}
 use Rattle.std.proofs.lemmas.List.Elements.{All-push}
 use Rattle.std.proofs.lemmas.Option.{slice_get_within}
 use Rattle.pattern_data.specs.declared.pattern.Pattern.{Pattern}
@@ -14,7 +14,6 @@ use Rattle.position_theory.proofs.StateLemmas.{get_at}
 use Rattle.position_sets.specs.declared.following.Position.{Position}
 use Rattle.position_sets.specs.Joints.{AreJoint}
 use Rattle.position_sets.specs.Sets.{Has, IsSetOfWords, has_place}
-use Rattle.position_sets.proofs.BeginLemmas.{and_split}
 use Rattle.position_sets.proofs.PlaceLemmas.{equal_from_places}
 use Rattle.token_patterns.specs.Ahead.{IsBehindOne, ReadsAt, IsMaskOf, IsFirstRank}
 use Rattle.token_patterns.specs.Scanner.{IsStep, IsEnding, IsEnd, AreSteps, AreEnds}
@@ -90,7 +89,7 @@ module _ (patterns : List Pattern) (size : ℕ) (positions : List Position) (fro
 
     pub common_after : (set : List ℕ) → ((place : ℕ) → has_place set place ≡ (has_place ahead place && has_place mask place)) → IsSetAfter patterns set (w ++ byte ∷ [])
     common_after set both q = (
-      λ has. let h = and_split (has_place ahead q) (has_place mask q) (sym (both q) ∙ has) in both_reach q h.0 h.1,
+      λ has. let h = and_parts (has_place ahead q) (has_place mask q) (sym (both q) ∙ has) in both_reach q h.0 h.1,
       λ reach. let h = reach_both q reach in both q ∙ and_from (has_place ahead q) (has_place mask q) h.0 h.1,
     )
 
