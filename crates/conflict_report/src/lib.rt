@@ -2,8 +2,11 @@
 #![tactic(auto)]
 
 mod items;
+mod printer;
 mod tables;
 mod words;
 
 pub use items::{conflict_text, item_text};
-pub use tables::{push_state, push_states_line, tables_text};
+pub use printer::Printer;
+pub use tables::{push_states_line, tables_text};
+pub use words::push_number;

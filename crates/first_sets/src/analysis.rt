@@ -117,7 +117,7 @@ pub fn analyse(alloc: Global, grammar: &Grammar) -> Result<Firsts, UselessFault>
     ensures facts { IfOk result (λ firsts. AreFirsts grammar.now firsts) }
     ensures due { IfErr result (λ fault. IsDue grammar.now fault) }
 {
-    let _rules = grammar.rules();
+    grammar.holds();
     let uses = uses_of_names(alloc, grammar)?;
     check_productive(alloc, grammar, &uses)?;
     let mentions = mentions_of_names(alloc, grammar, &uses)?;

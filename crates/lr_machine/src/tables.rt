@@ -1,13 +1,14 @@
 ghost use Rattle.std.specs.Prelude.{◌≡◌, ◌≢◌, ◌↔◌, ℕ, ◌+◌, ◌<◌, ◌≤◌, ◌==◌, ◌&&◌, if◌then◌else◌, IsTrue, IfOk, Some, length, slice_get, All};
 ghost use Rattle.std.specs.Option.{option_map};
-ghost use Rattle.lr_base.specs.IsGrammar.{IsGrammar, IsSymbolOf};
+ghost use Rattle.lr_base.specs.IsGrammar.{IsSymbolOf};
 ghost use Rattle.table_data.specs.declared.act.Act.TheVariants.{Error};
 ghost use Rattle.table_data.specs.Tables.{IsActOf, IsGotoOf, act_in, goto_in};
-ghost use Rattle.lr_machine.specs.IsTables.{AreBlank};
+ghost use Rattle.lr_machine.specs.IsTables.{AreBlank, IsTables};
 
-use crate::cell::{Cell, GotoCell};
+use crate::cell::ActCell;
 use crate::rules::copy_rules;
 use lr_base::{Grammar, NameId, NoMemory, Rule, RuleId, StateId, Sym, TokenId};
+use state_cells::StateCell;
 use std::alloc::Global;
 use std::marker::Model;
 use table_data::Act;
@@ -17,8 +18,8 @@ use table_data::Act;
 /// 500 names, 1,000 rules and 10,000 states.
 #[derive(Debug, Drop)]
 pub struct Tables {
-    acts: Vec<Cell>,
-    gotos: Vec<GotoCell>,
+    acts: Vec<ActCell>,
+    gotos: Vec<StateCell>,
     rules: Vec<Rule>,
     tokens: u32,
     names: u32,
@@ -27,42 +28,30 @@ pub struct Tables {
 
 impl Model for Tables {
     ghost use Rattle.table_data.specs.Tables.{Tables as Parts};
-    ghost use Rattle.lr_machine.specs.IsTables.{IsTables};
 
     ghost Value = { Parts };
 
-    ghost view = { λ s. record {
-      tokens = s.tokens;
-      names = s.names;
-      states = s.states;
-      rules = s.rules.items;
-      acts = s.acts.items;
-      gotos = s.gotos.items;
-    } };
+    ghost use Rattle.lr_machine.specs.Parts.{parts_of};
+    ghost use Rattle.lr_machine.specs.IsTables.{IsTables};
 
-    ghost invariant = { λ s. IsTables (record {
-      tokens = s.tokens;
-      names = s.names;
-      states = s.states;
-      rules = s.rules.items;
-      acts = s.acts.items;
-      gotos = s.gotos.items;
-    }) };
+    ghost view = { parts_of };
+
+    ghost invariant = { λ s. IsTables (parts_of s) };
 }
 
 impl Tables {
     /// Tables with the rules of the grammar and so many states, at most 10,000. Each action is an error, and there is no
-    /// goto. `grammar` says what holds of every grammar, for whoever fills them.
+    /// goto.
     pub fn blank(alloc: Global, grammar: &Grammar, states: u32) -> Result<Tables, NoMemory>
         requires { states ≤ 10000 }
-        ensures blank { IfOk result (λ tables. AreBlank grammar.now states tables) }
-        ensures grammar { IsGrammar grammar.now }
+        ensures { IfOk result (λ tables. AreBlank grammar.now states tables) }
     {
         let tokens = grammar.tokens();
         let names = grammar.names();
         let rules = copy_rules(alloc, grammar.rules())?;
-        let acts = vec![in alloc; Cell::of(Act::Error); states as usize * (tokens as usize + 1)]?;
-        let gotos = vec![in alloc; GotoCell::of(None); states as usize * names as usize]?;
+        let width = tokens as usize + 1;
+        let acts = vec![in alloc; ActCell::of(Act::Error); states as usize * width]?;
+        let gotos = vec![in alloc; StateCell::of(None); states as usize * names as usize]?;
         Ok(Tables {
             acts,
             gotos,
@@ -71,6 +60,13 @@ impl Tables {
             names,
             states,
         })
+    }
+
+    /// What holds of all tables.
+    pub fn holds(&self)
+        ensures { IsTables self.now }
+    {
+        let _ = &self.tokens;
     }
 
     /// What a state does on a token, on the end mark, or on the bad byte, on which every state errs.
@@ -159,7 +155,7 @@ impl Tables {
         ensures rest { self.new ≡ record self.old { acts = self.new.acts } }
     {
         let width = self.tokens as usize + 1;
-        self.acts[state.0 as usize * width + token.0 as usize] = Cell::of(act);
+        self.acts[state.0 as usize * width + token.0 as usize] = ActCell::of(act);
     }
 
     /// Sets the state that a state goes to along a name, and nothing else.
@@ -172,6 +168,6 @@ impl Tables {
         ensures rest { self.new ≡ record self.old { gotos = self.new.gotos } }
     {
         let width = self.names as usize;
-        self.gotos[state.0 as usize * width + name.0 as usize] = GotoCell::of(Some(to));
+        self.gotos[state.0 as usize * width + name.0 as usize] = StateCell::of(Some(to));
     }
 }

@@ -25,6 +25,7 @@ pub fn build(
     ensures free { IfOk result (λ _. HasConflict grammar.now → ⊥) }
     ensures conflict { IfErr result (λ fault. IsBuildFault grammar.now fault) }
 {
+    grammar.holds();
     let mut tables = Tables::blank(alloc, grammar, collection.states())?;
     for number in 0..collection.states() {
         let state = StateId(number);

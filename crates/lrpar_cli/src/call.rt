@@ -201,11 +201,7 @@ fn write_states<O: Sink, E: Sink>(
     ensures err_later { (E.seen err.old).faults ≤ (E.seen err.new).faults }
     ensures err_room { (E.seen err.new).room ≡ (E.seen err.old).room }
 {
-    let names = match sheet.token_texts() {
-        Ok(names) => names,
-        Err(_) => return Status::NoMemory,
-    };
-    match write_tables(alloc, &names, sheet, &built.collection, &built.tables, out) {
+    match write_tables(alloc, sheet, &built.collection, &built.tables, out) {
         Ok(()) => Status::Done,
         Err(ListFault::NoMemory) => Status::NoMemory,
         Err(ListFault::Failed) => say(err, WRITE_FAULT, Status::WriteFault),

@@ -103,7 +103,7 @@ fn conflict_said(alloc: Global, sheet: &Sheet, conflict: &Conflict) -> Result<Ve
     requires { IsShown sheet.now.grammar conflict.now }
     ensures { IfOk result (λ text. text.items ≡ text_of_conflict sheet.now conflict.now) }
 {
-    let _rules = sheet.grammar().rules();
+    sheet.grammar().holds();
     conflict_text(alloc, sheet, conflict)
 }
 

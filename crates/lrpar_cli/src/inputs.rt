@@ -13,8 +13,8 @@ ghost use Rattle.lrpar_cli.specs.Inputs.{IsReady, IsRefusal, IsRefusedBy, IsStat
 
 use crate::fault_texts::{fault_text, grammar_text};
 use grammar_checks::{Built, build_grammar};
-use grammar_faults::GrammarFault;
 use grammar_data::Token;
+use grammar_faults::GrammarFault;
 use line_lexer::{Lines, lex_lines};
 use lr_base::{NoMemory, ReadFault, SHEET_BYTES, Shelf, TEXT_BYTES, Text, read_all};
 use pattern_data::Meaning;

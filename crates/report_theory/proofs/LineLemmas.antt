@@ -59,3 +59,10 @@ pub five_parts : (old one two three four five a b c d e : List ℕ) → one ≡ 
 five_parts old one two three four five a b c d e p q r s t =
     t ∙ ap (λ l. l ++ e) (s ∙ ap (λ l. l ++ d) (r ∙ ap (λ l. l ++ c) (q ∙ ap (λ l. l ++ b) p)))
     ∙ append_assoc (((old ++ a) ++ b) ++ c) d e ∙ append_assoc ((old ++ a) ++ b) c (d ++ e) ∙ append_assoc (old ++ a) b (c ++ (d ++ e)) ∙ append_assoc old a (b ++ (c ++ (d ++ e)))
+
+-- two parts more behind a text of five
+pub seven_parts : (one two three a b c d e x y : List ℕ) → one ≡ a ++ (b ++ (c ++ (d ++ e))) → two ≡ one ++ x → three ≡ two ++ y → three ≡ a ++ (b ++ (c ++ (d ++ (e ++ (x ++ y)))))
+seven_parts one two three a b c d e x y p q r =
+    r ∙ ap (λ l. l ++ y) (q ∙ ap (λ l. l ++ x) p) ∙ append_assoc (a ++ (b ++ (c ++ (d ++ e)))) x y
+    ∙ append_assoc a (b ++ (c ++ (d ++ e))) (x ++ y)
+    ∙ ap (λ l. a ++ l) (append_assoc b (c ++ (d ++ e)) (x ++ y) ∙ ap (λ l. b ++ l) (append_assoc c (d ++ e) (x ++ y) ∙ ap (λ l. c ++ l) (append_assoc d e (x ++ y))))

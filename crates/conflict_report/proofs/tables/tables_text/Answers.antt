@@ -6,7 +6,8 @@ use Rattle.conflict_report.proofs.tables.tables_text.Goals as goal
 
 pub loop-state-preserved : goal.loop-state-preserved
 loop-state-preserved c =
-    next_line (state_text c.args.sheet.now c.args.collection.now c.args.tables.now) (states_line c.args.tables.now) c.loop-state.text.items c.push_state.new.text.items c.loop-state.state c.loop-state.invariant c.in_ok-push_state.ensures
+    next_line (state_text c.args.sheet.now c.args.collection.now c.args.tables.now) (states_line c.args.tables.now) c.loop-state.text.items c.push_state.new.text.items c.loop-state.state c.loop-state.invariant
+    (c.in_ok-push_state.ensures ∙ ap (λ s. c.loop-state.text.items ++ state_text s c.args.collection.now c.args.tables.now c.loop-state.state) c.in_ok-printer.ensures)
 
 pub returns : goal.returns
 unfolding tables_text

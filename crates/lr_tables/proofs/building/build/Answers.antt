@@ -14,8 +14,8 @@ use Rattle.lr_tables.proofs.building.build.Goals as goal
 pub loop-number-init : goal.loop-number-init
 loop-number-init c =
     let g = c.args.grammar.now in
-    filled_none g c.args.collection.now c.in_ok-tables.tables (in_range g c.in_ok-tables.ensures.grammar) c.requires
-    (subst (λ n. AreBlank g n c.in_ok-tables.tables) c.states.ensures.states c.in_ok-tables.ensures.blank)
+    filled_none g c.args.collection.now c.in_ok-tables.tables (in_range g c.holds.ensures) c.requires
+    (subst (λ n. AreBlank g n c.in_ok-tables.tables) c.states.ensures.states c.in_ok-tables.ensures)
 
 pub first_clash-requires-clause-entries : goal.first_clash-requires-clause-entries
 first_clash-requires-clause-entries c =
