@@ -1,6 +1,6 @@
 -- Lookaheads that grow, and what a spot carries to the name there.
 use Rattle.std.proofs.Common.{◌≡◌, ℕ, zero, suc, ◌+◌, ◌<◌, ◌≤◌, ◌⊎◌, inl, inr, Bool, true, false, ◌||◌, IsTrue, List, [], ◌∷◌, ◌++◌, length, get_or, set, nat_lt, Some, All, Contains, refl, sym, ap, subst, ◌∙◌, arith}
-use Rattle.std.proofs.lemmas.Bool.{or_left, or_right, or_cases, cases_eq, ltb-true}
+use Rattle.std.proofs.lemmas.Bool.{or_left, or_right, or_cases, false≢true, cases_eq, ltb-true}
 use Rattle.std.proofs.lemmas.List.{get_or-set_same, get_or-set_other, set-get_or, length-set, length_push}
 use Rattle.std.proofs.lemmas.List.Elements.{All-set, All-get_or, All-from_get_or, All-weaker, Contains-push, Contains-append_left, Contains-append_right, Contains-push_cases}
 use Rattle.std.proofs.lemmas.List.Sums.{sum_by-set}
@@ -11,10 +11,10 @@ use Rattle.grammar_data.specs.Grammar.{Grammar}
 use Rattle.grammar_data.specs.TokenSet.{IsTokenSet, has_token}
 use Rattle.item_theory.specs.Items.{all_rules}
 use Rattle.item_sets.specs.declared.spot.Spot.{Spot}
-use Rattle.item_sets.specs.Spots.{IsSpotAt, AreSpots, IsOpening, IsTable}
+use Rattle.item_sets.specs.Spots.{IsSpotAt, AreSpots, IsFront, IsTable}
 use Rattle.collection_data.specs.Collection.{column_of}
 use Rattle.collection_data.proofs.TokenLemmas.{token_below}
-use Rattle.item_sets.specs.Closing.{ahead_in, carries, absent, lack, IsNameWithin, missing, IsGrown, IsRowOpened, IsJoined}
+use Rattle.item_sets.specs.Closing.{ahead_in, carries, absent, lack, IsNameWithin, missing, IsGrown, IsRowOpened, IsAdded, IsMarked}
 
 -- ---- sets that grow
 
@@ -57,43 +57,45 @@ missing_less aheads n new a within more small clear has =
 
 -- ---- what one name gets
 
-module _ (old : List (List ℕ)) (work : List ℕ) (n : ℕ) (tokens joined : List ℕ) (within : n < length old) (sets : All IsTokenSet old) (members : (b : ℕ) → has_token joined b ≡ (has_token (get_or old n []) b || has_token tokens b)) where
+module _ (old : List (List ℕ)) (work : List ℕ) (n : ℕ) (tokens both : List ℕ) (within : n < length old) (members : (b : ℕ) → has_token both b ≡ (has_token (get_or old n []) b || has_token tokens b)) where
   abbrev new : List (List ℕ)
-  new = set old n joined
+  new = set old n both
 
-  new_at : (m : ℕ) → m ≡ n → get_or new m [] ≡ joined
-  new_at m e = ap (λ k. get_or new k []) e ∙ get_or-set_same old n joined [] within
+  new_at : (m : ℕ) → m ≡ n → get_or new m [] ≡ both
+  new_at m e = ap (λ k. get_or new k []) e ∙ get_or-set_same old n both [] within
 
   new_other : (m : ℕ) → (m ≡ n → ⊥) → get_or new m [] ≡ get_or old m []
-  new_other m ne = get_or-set_other old n m joined [] ne
+  new_other m ne = get_or-set_other old n m both [] ne
 
-  joined_kept : (m a : ℕ) → IsTrue (ahead_in old m a) → IsTrue (ahead_in new m a)
-  joined_kept m a h = elim (cases_eq m n) [
+  added_kept : (m a : ℕ) → IsTrue (ahead_in old m a) → IsTrue (ahead_in new m a)
+  added_kept m a h = elim (cases_eq m n) [
     | inl e ↦ ap (λ s. has_token s a) (new_at m e) ∙ members a ∙ or_left _ _ (ap (λ k. has_token (get_or old k []) a) (sym e) ∙ h)
     | inr ne ↦ ap (λ s. has_token s a) (new_other m ne) ∙ h
   ]
 
-  joined_has : (b : ℕ) → IsTrue (has_token tokens b) → IsTrue (ahead_in new n b)
-  joined_has b h = ap (λ s. has_token s b) (new_at n refl) ∙ members b ∙ or_right _ _ h
+  added_has : (b : ℕ) → IsTrue (has_token tokens b) → IsTrue (ahead_in new n b)
+  added_has b h = ap (λ s. has_token s b) (new_at n refl) ∙ members b ∙ or_right _ _ h
 
-  joined_from : (m b : ℕ) → m ≡ n → (has_token (get_or old n []) b ≡ true) ⊎ (has_token tokens b ≡ true) → IsTrue (ahead_in old m b) ⊎ ((m ≡ n) × IsTrue (has_token tokens b))
-  joined_from m b e (inl h) = inl (ap (λ k. has_token (get_or old k []) b) e ∙ h)
-  joined_from m b e (inr h) = inr (e, h)
+  added_from : (m b : ℕ) → m ≡ n → (has_token (get_or old n []) b ≡ true) ⊎ (has_token tokens b ≡ true) → IsTrue (ahead_in old m b) ⊎ ((m ≡ n) × IsTrue (has_token tokens b))
+  added_from m b e (inl h) = inl (ap (λ k. has_token (get_or old k []) b) e ∙ h)
+  added_from m b e (inr h) = inr (e, h)
 
-  joined_only : (m b : ℕ) → IsTrue (ahead_in new m b) → IsTrue (ahead_in old m b) ⊎ ((m ≡ n) × IsTrue (has_token tokens b))
-  joined_only m b h = elim (cases_eq m n) [
-    | inl e ↦ joined_from m b e (or_cases _ _ (sym (members b) ∙ ap (λ s. has_token s b) (sym (new_at m e)) ∙ h))
+  added_only : (m b : ℕ) → IsTrue (ahead_in new m b) → IsTrue (ahead_in old m b) ⊎ ((m ≡ n) × IsTrue (has_token tokens b))
+  added_only m b h = elim (cases_eq m n) [
+    | inl e ↦ added_from m b e (or_cases _ _ (sym (members b) ∙ ap (λ s. has_token s b) (sym (new_at m e)) ∙ h))
     | inr ne ↦ inl (ap (λ s. has_token s b) (sym (new_other m ne)) ∙ h)
   ]
 
-  module _ (set_joined : IsTokenSet joined) where
-    -- where some were new, the name is noted
-    pub joined_grew : (later : List ℕ) → later ≡ work ++ n ∷ [] → (a : ℕ) × (has_token (get_or old n []) a ≡ false) × (has_token tokens a ≡ true) → IsJoined n tokens old work new later
-    joined_grew later at (a, clear, has) = record {
+  module _ (set_both : IsTokenSet both) where
+    fewer_missing : (a : ℕ) → has_token (get_or old n []) a ≡ false → has_token tokens a ≡ true → suc (missing new) ≤ missing old
+    fewer_missing a clear has = missing_less old n both a within (λ b h. members b ∙ or_left _ _ h) (token_below both a set_both (members a ∙ or_right _ _ has)) clear (members a ∙ or_right _ _ has)
+
+    -- where some were new, the name waits now
+    pub added_grew : (later : List ℕ) → later ≡ work ++ n ∷ [] → (a : ℕ) × (has_token (get_or old n []) a ≡ false) × (has_token tokens a ≡ true) → IsAdded n tokens old work new later
+    added_grew later at (a, clear, has) = record {
       grown = record {
-        count = length-set old n joined;
-        sets = All-set IsTokenSet old n joined set_joined sets;
-        kept = joined_kept;
+        count = length-set old n both;
+        kept = added_kept;
         noted = λ m. elim (cases_eq m n) [
           | inl e ↦ inl (subst (λ l. Contains l m) (sym at) (subst (λ k. Contains (work ++ n ∷ []) k) (sym e) (Contains-push work n)))
           | inr ne ↦ inr (new_other m ne)
@@ -101,43 +103,100 @@ module _ (old : List (List ℕ)) (work : List ℕ) (n : ℕ) (tokens joined : Li
         works = λ m h. subst (λ l. Contains l m) (sym at) (Contains-append_left work (n ∷ []) m h);
         waiting = λ m h. waits m (Contains-push_cases work n m (subst (λ l. Contains l m) at h));
         less =
-            let less = missing_less old n joined a within (λ b h. members b ∙ or_left _ _ h) (token_below joined a set_joined (members a ∙ or_right _ _ has)) clear (members a ∙ or_right _ _ has) in
+            let less = fewer_missing a clear has in
             let size = ap length at ∙ length_push work n in
             omega arith;
       };
-      has = joined_has;
-      only = joined_only;
+      has = added_has;
+      only = added_only;
     }
       where
         waits : (m : ℕ) → Contains work m ⊎ (n ≡ m) → Contains work m ⊎ ((m < length new) × (b : ℕ) × IsTrue (ahead_in new m b))
         waits m (inl h) = inl h
-        waits m (inr e) = inr (let size = length-set old n joined in omega arith, a, ap (λ k. has_token (get_or new k []) a) (sym e) ∙ joined_has a has)
+        waits m (inr e) = inr (let size = length-set old n both in omega arith, a, ap (λ k. has_token (get_or new k []) a) (sym e) ∙ added_has a has)
+
+    -- it waited already
+    pub added_waiting : Contains work n → (a : ℕ) × (has_token (get_or old n []) a ≡ false) × (has_token tokens a ≡ true) → IsAdded n tokens old work new work
+    added_waiting waits (a, clear, has) = record {
+      grown = record {
+        count = length-set old n both;
+        kept = added_kept;
+        noted = λ m. elim (cases_eq m n) [
+          | inl e ↦ inl (subst (λ k. Contains work k) (sym e) waits)
+          | inr ne ↦ inr (new_other m ne)
+        ];
+        works = λ m h. h;
+        waiting = λ m h. inl h;
+        less = let less = fewer_missing a clear has in omega arith;
+      };
+      has = added_has;
+      only = added_only;
+    }
 
     -- else nothing changed
-    pub joined_same : joined ≡ get_or old n [] → IsJoined n tokens old work new work
-    joined_same e = record {
+    pub added_same : both ≡ get_or old n [] → IsAdded n tokens old work new work
+    added_same e = record {
       grown = record {
-        count = length-set old n joined;
-        sets = All-set IsTokenSet old n joined set_joined sets;
-        kept = joined_kept;
+        count = length-set old n both;
+        kept = added_kept;
         noted = λ m. inr (ap (λ l. get_or l m []) same);
         works = λ m h. h;
         waiting = λ m h. inl h;
         less = let size = ap missing same in omega arith;
       };
-      has = joined_has;
-      only = joined_only;
+      has = added_has;
+      only = added_only;
     }
       where
         same : new ≡ old
         same = ap (λ s. set old n s) e ∙ set-get_or old n []
 
+-- ---- what waits
+
+module _ (aheads : List (List ℕ)) (work : List ℕ) (waits : List Bool) where
+  -- a set for another
+  pub marked_set : (n : ℕ) (tokens : List ℕ) → IsTokenSet tokens → IsMarked aheads work waits → IsMarked (set aheads n tokens) work waits
+  marked_set n tokens is marked = record {
+    sets = All-set IsTokenSet aheads n tokens is marked.sets;
+    count = marked.count ∙ sym (length-set aheads n tokens);
+    within = λ m h. (let less = marked.within m h in let size = length-set aheads n tokens in omega arith);
+    waiting = marked.waiting;
+  }
+
+  -- one name more, which is marked
+  pub marked_more : (n : ℕ) → n < length aheads → IsMarked aheads work waits → IsMarked aheads (work ++ n ∷ []) (set waits n true)
+  marked_more n less marked = record {
+    sets = marked.sets;
+    count = length-set waits n true ∙ marked.count;
+    within = λ m h. elim (Contains-push_cases work n m h) [ inl before ↦ marked.within m before | inr e ↦ subst (λ k. k < length aheads) e less ];
+    waiting = λ m is. elim (cases_eq m n) [
+      | inl e ↦ subst (λ k. Contains (work ++ n ∷ []) k) (sym e) (Contains-push work n)
+      | inr ne ↦ Contains-append_left work (n ∷ []) m (marked.waiting m (sym (get_or-set_other waits n m true false ne) ∙ is))
+    ];
+  }
+
+  -- the last name waits no more
+  pub marked_less : (n : ℕ) → IsMarked aheads (work ++ n ∷ []) waits → IsMarked aheads work (set waits n false)
+  marked_less n marked = record {
+    sets = marked.sets;
+    count = length-set waits n false ∙ marked.count;
+    within = λ m h. marked.within m (Contains-append_left work (n ∷ []) m h);
+    waiting = λ m is. elim (cases_eq m n) [
+      | inl e ↦
+          let inside : n < length waits = (let less = marked.within n (Contains-push work n) in let count = marked.count in omega arith) in
+          absurd (false≢true (sym (get_or-set_same waits n false false inside) ∙ ap (λ k. get_or (set waits n false) k false) (sym e) ∙ is))
+      | inr ne ↦ elim (Contains-push_cases work n m (marked.waiting m (sym (get_or-set_other waits n m false false ne) ∙ is))) [
+        | inl before ↦ before
+        | inr same ↦ absurd (ne (sym same))
+      ]
+    ];
+  }
+
 -- ---- what a row of spots opens
 
-pub grown_none : (old : List (List ℕ)) (work : List ℕ) → All IsTokenSet old → IsGrown old work old work
-grown_none old work sets = record {
+pub grown_none : (old : List (List ℕ)) (work : List ℕ) → IsGrown old work old work
+grown_none old work = record {
   count = refl;
-  sets = sets;
   kept = λ n a h. h;
   noted = λ n. inr refl;
   works = λ n h. h;
@@ -148,17 +207,17 @@ grown_none old work sets = record {
 nothing_in : {X : Type 0} (x : X) → Contains [] x → ⊥
 nothing_in x h = absurd (omega (arith, h.1))
 
-pub row_none : (from : List ℕ) (old : List (List ℕ)) (work : List ℕ) → All IsTokenSet old → IsRowOpened [] from old work old work
-row_none from old work sets = record {
-  grown = grown_none old work sets;
+pub row_none : (from : List ℕ) (old : List (List ℕ)) (work : List ℕ) → IsRowOpened [] from old work old work
+row_none from old work = record {
+  grown = grown_none old work;
   has = λ spot m b h is carried. absurd (nothing_in spot h);
   only = λ m b h. inl h;
 }
 
 -- a token is no name
-pub row_token : (spot : Spot) (t : ℕ) (from : List ℕ) (old : List (List ℕ)) (work : List ℕ) → spot.symbol ≡ Token t → All IsTokenSet old → IsRowOpened (spot ∷ []) from old work old work
-row_token spot t from old work token sets = record {
-  grown = grown_none old work sets;
+pub row_token : (spot : Spot) (t : ℕ) (from : List ℕ) (old : List (List ℕ)) (work : List ℕ) → spot.symbol ≡ Token t → IsRowOpened (spot ∷ []) from old work old work
+row_token spot t from old work token = record {
+  grown = grown_none old work;
   has = λ other m b h is carried. absurd (let e : spot ≡ other = only_one spot other h in let k : Token t ≡ Name m = sym token ∙ ap (λ s. s.symbol) e ∙ is in cc);
   only = λ m b h. inl h;
 }
@@ -178,20 +237,20 @@ module _ (spot : Spot) (n : ℕ) (from tokens : List ℕ) (old : List (List ℕ)
   same_name : (m : ℕ) → spot.symbol ≡ Name n → spot.symbol ≡ Name m → m ≡ n
   same_name m e f = let k : Name m ≡ Name n = sym f ∙ e in cc
 
-  joined_from_row : (m b : ℕ) → spot.symbol ≡ Name n → ((c : ℕ) → has_token tokens c ≡ carries spot from c) → IsTrue (ahead_in old m b) ⊎ ((m ≡ n) × IsTrue (has_token tokens b))
+  added_from_row : (m b : ℕ) → spot.symbol ≡ Name n → ((c : ℕ) → has_token tokens c ≡ carries spot from c) → IsTrue (ahead_in old m b) ⊎ ((m ≡ n) × IsTrue (has_token tokens b))
       → IsTrue (ahead_in old m b) ⊎ ((other : Spot) × Contains (spot ∷ []) other × (other.symbol ≡ Name m) × IsTrue (carries other from b))
-  joined_from_row m b is carried (inl h) = inl h
-  joined_from_row m b is carried (inr h) = inr (spot, Contains-push [] spot, is ∙ ap Name (sym h.0), sym (carried b) ∙ h.1)
+  added_from_row m b is carried (inl h) = inl h
+  added_from_row m b is carried (inr h) = inr (spot, Contains-push [] spot, is ∙ ap Name (sym h.0), sym (carried b) ∙ h.1)
 
   -- the spot's name gets what the spot carries
-  pub row_name : spot.symbol ≡ Name n → ((c : ℕ) → has_token tokens c ≡ carries spot from c) → IsJoined n tokens old work new later → IsRowOpened (spot ∷ []) from old work new later
-  row_name is carried joined = record {
-    grown = joined.grown;
+  pub row_name : spot.symbol ≡ Name n → ((c : ℕ) → has_token tokens c ≡ carries spot from c) → IsAdded n tokens old work new later → IsRowOpened (spot ∷ []) from old work new later
+  row_name is carried added = record {
+    grown = added.grown;
     has = λ other m b h at carries_b.
         let e : spot ≡ other = one_spot other (Contains-push_cases [] spot other h) in
         let k : m ≡ n = same_name m is (ap (λ s. s.symbol) e ∙ at) in
-        subst (λ i. IsTrue (ahead_in new i b)) (sym k) (joined.has b (carried b ∙ ap (λ (s : Spot). carries s from b) e ∙ carries_b));
-    only = λ m b h. joined_from_row m b is carried (joined.only m b h);
+        subst (λ i. IsTrue (ahead_in new i b)) (sym k) (added.has b (carried b ∙ ap (λ (s : Spot). carries s from b) e ∙ carries_b));
+    only = λ m b h. added_from_row m b is carried (added.only m b h);
   }
 
 module _ (old : List (List ℕ)) (work : List ℕ) (mid : List (List ℕ)) (between : List ℕ) (new : List (List ℕ)) (later : List ℕ) where
@@ -211,7 +270,6 @@ module _ (old : List (List ℕ)) (work : List ℕ) (mid : List (List ℕ)) (betw
   pub grown_on : IsGrown old work mid between → IsGrown mid between new later → IsGrown old work new later
   grown_on first second = record {
     count = second.count ∙ first.count;
-    sets = second.sets;
     kept = λ n a h. second.kept n a (first.kept n a h);
     noted = λ n. notes_on n second (first.noted n) (second.noted n);
     works = λ n h. second.works n (first.works n h);
@@ -265,12 +323,12 @@ row_within : (g : Grammar) (right : List Sym) (row : List Spot) → AreSpots g r
 row_within g right row are = All-from_get_or (λ (spot : Spot). IsNameWithin g.names spot.symbol) row some_spot
     (λ i less. spot_within g right i (get_or row i some_spot) (are.each i (get_or row i some_spot) (slice_get-get_or row i some_spot less)))
 
-pub rows_within : (g : Grammar) (rows openings : List (List Spot)) → IsTable g rows openings → All (λ row. All (λ (spot : Spot). IsNameWithin g.names spot.symbol) row) rows
-rows_within g rows openings table = All-from_get_or (λ row. All (λ (spot : Spot). IsNameWithin g.names spot.symbol) row) rows [] (λ r less.
+pub rows_within : (g : Grammar) (rows fronts : List (List Spot)) → IsTable g rows fronts → All (λ row. All (λ (spot : Spot). IsNameWithin g.names spot.symbol) row) rows
+rows_within g rows fronts table = All-from_get_or (λ row. All (λ (spot : Spot). IsNameWithin g.names spot.symbol) row) rows [] (λ r less.
     let rule = get_or (all_rules g) r (0, []) in
     let within : r < length (all_rules g) = omega (arith, table.spots.count) in
     row_within g rule.1 (get_or rows r []) (table.spots.each r rule.0 rule.1 (record { found = slice_get-get_or (all_rules g) r (0, []) within })))
 
-pub openings_within : (g : Grammar) (rows openings : List (List Spot)) → IsTable g rows openings → All (λ row. All (λ (spot : Spot). IsNameWithin g.names spot.symbol) row) openings
-openings_within g rows openings table = All-from_get_or (λ row. All (λ (spot : Spot). IsNameWithin g.names spot.symbol) row) openings [] (λ n less.
-    All-weaker (IsOpening g n) (λ (spot : Spot). IsNameWithin g.names spot.symbol) (λ spot opening. spot_within g _ 0 spot opening.front) (get_or openings n []) (table.each n (omega (arith, table.count))).sound)
+pub fronts_within : (g : Grammar) (rows fronts : List (List Spot)) → IsTable g rows fronts → All (λ row. All (λ (spot : Spot). IsNameWithin g.names spot.symbol) row) fronts
+fronts_within g rows fronts table = All-from_get_or (λ row. All (λ (spot : Spot). IsNameWithin g.names spot.symbol) row) fronts [] (λ n less.
+    All-weaker (IsFront g n) (λ (spot : Spot). IsNameWithin g.names spot.symbol) (λ spot front_spot. spot_within g _ 0 spot front_spot.front) (get_or fronts n []) (table.each n (omega (arith, table.count))).sound)

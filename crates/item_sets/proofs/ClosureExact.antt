@@ -1,7 +1,7 @@
 -- The lookaheads that are found are those of the closure.
 use Rattle.std.proofs.Common.{◌≡◌, ℕ, ◌<◌, ◌↔◌, ◌⊎◌, inl, inr, true, false, ◌&&◌, IsTrue, List, [], ◌∷◌, ◌++◌, length, get_or, take, slice_get, Option, Some, None, Contains, refl, sym, ap, subst, ◌∙◌, arith}
 use Rattle.std.specs.Option.{option_to_list}
-use Rattle.std.proofs.lemmas.Bool.{or_left, or_right, or_cases, and_parts, and_from}
+use Rattle.std.proofs.lemmas.Bool.{or_left, or_right, or_cases, and_parts, and_from, false≢true}
 use Rattle.std.proofs.lemmas.List.{take-append-drop, length-take-le, nil_from_length, length-append}
 use Rattle.std.proofs.lemmas.List.Elements.{All-contains, Contains-push, Contains-append_left, Contains-push_cases}
 use Rattle.std.proofs.lemmas.Option.{slice_get_within, slice_get-get_or}
@@ -22,8 +22,8 @@ use Rattle.collection_data.specs.declared.entry.Entry.{Entry}
 use Rattle.item_sets.specs.declared.spot.Spot.{Spot}
 use Rattle.collection_data.specs.Entries.{entry_has, entries_have, IsEntry}
 use Rattle.collection_data.proofs.EntryLemmas.{entry_parts, entry_from, have_pushed}
-use Rattle.item_sets.specs.Spots.{IsSpotAt, IsOpening}
-use Rattle.item_sets.specs.Closing.{ahead_in, carries, IsGrown, IsRowOpened, IsSetting, Calls, IsSettled, IsClosing, IsOpenedItem}
+use Rattle.item_sets.specs.Spots.{IsSpotAt, IsFront}
+use Rattle.item_sets.specs.Closing.{ahead_in, carries, IsGrown, IsRowOpened, IsSetting, Calls, IsSettled, IsClosing, IsOpenedItem, IsUnopened, PartClosure}
 
 -- ---- spots as sources of lookaheads
 
@@ -80,7 +80,7 @@ module _ (g : Grammar) (r d : ℕ) (spot : Spot) (source : IsSource g r d spot) 
 
 -- ---- the closure grows
 
-module _ (g : Grammar) (rows openings : List (List Spot)) (setting : IsSetting g rows openings) (given : List Entry) where
+module _ (g : Grammar) (rows fronts : List (List Spot)) (setting : IsSetting g rows fronts) (given : List Entry) where
   abbrev Given : Item → Type 0
   Given i = IsTrue (entries_have given i)
 
@@ -119,6 +119,16 @@ module _ (g : Grammar) (rows openings : List (List Spot)) (setting : IsSetting g
 
   open_call : (i j : Item) (m : ℕ) (right : List Sym) → Closure g Given i → Calls g i m j.ahead → IsRule g.rules j.rule m right → j.dot ≡ 0 → Closure g Given j
   open_call i j m right c call rule dot = opened c (found_open g setting.range setting.productive call.dotted rule dot call.found)
+
+  -- nothing is opened of no entries
+  pub closing_none : (c : PartClosure) → IsUnopened g.names c → IsClosing g given [] c.aheads c.work
+  closing_none c unopened = record {
+    count = unopened.count;
+    sound = λ n j right h rule dot. absurd (false≢true (sym (unopened.none n j.ahead) ∙ h));
+    settled = λ n. inr (λ r a m b right rule h call. absurd (false≢true (sym (unopened.none n a) ∙ h)));
+    waiting = λ n h. absurd (let none : Contains [] n = subst (λ w. Contains w n) unopened.work h in omega (arith, none.1));
+    seeds = λ i m b h call. absurd (false≢true h);
+  }
 
   -- by the name behind the dot of a given entry
   module _ (seeded : List Entry) (e : Entry) (entry : IsEntry g e) (given_has : (i : Item) → IsTrue (entry_has e i) → Given i) (old : List (List ℕ)) (work : List ℕ) (new : List (List ℕ)) (later : List ℕ)
@@ -162,7 +172,6 @@ module _ (g : Grammar) (rows openings : List (List Spot)) (setting : IsSetting g
     pub closing_seed : IsClosing g given (seeded ++ e ∷ []) new later
     closing_seed = record {
       count = row.grown.count ∙ closing.count;
-      sets = row.grown.sets;
       sound = λ n j right h rule dot. seed_sound n j right rule dot (row.only n j.ahead h);
       settled = λ n. settled_on old work new later row.grown n (closing.settled n);
       waiting = λ n h. waiting_on old work new later row.grown closing.count closing.waiting n (row.grown.waiting n h);
@@ -171,21 +180,21 @@ module _ (g : Grammar) (rows openings : List (List Spot)) (setting : IsSetting g
 
   -- by the names in front of a name's rules
   module _ (n : ℕ) (old : List (List ℕ)) (work : List ℕ) (new : List (List ℕ)) (later : List ℕ)
-      (closing : IsClosing g given given old (work ++ n ∷ [])) (row : IsRowOpened (get_or openings n []) (get_or old n []) old work new later) where
+      (closing : IsClosing g given given old (work ++ n ∷ [])) (row : IsRowOpened (get_or fronts n []) (get_or old n []) old work new later) where
     name_within : n < g.names
     name_within = (closing.waiting n (Contains-push work n)).0
 
     name_sound : (m : ℕ) (j : Item) (right : List Sym) → IsRule g.rules j.rule m right → j.dot ≡ 0
-        → IsTrue (ahead_in old m j.ahead) ⊎ ((spot : Spot) × Contains (get_or openings n []) spot × (spot.symbol ≡ Name m) × IsTrue (carries spot (get_or old n []) j.ahead)) → Closure g Given j
+        → IsTrue (ahead_in old m j.ahead) ⊎ ((spot : Spot) × Contains (get_or fronts n []) spot × (spot.symbol ≡ Name m) × IsTrue (carries spot (get_or old n []) j.ahead)) → Closure g Given j
     name_sound m j right rule dot (inl h) = closing.sound m j right h rule dot
     name_sound m j right rule dot (inr h) =
         let are = setting.table.each n name_within in
-        let opening = All-contains (IsOpening g n) (get_or openings n []) h.0 are.sound h.1 in
-        let source : IsSource g opening.number 0 h.0 = record { name = n; right = Name opening.name ∷ opening.after; rule = own_rule g opening.rule; within = omega arith; at = opening.front } in
+        let front_spot = All-contains (IsFront g n) (get_or fronts n []) h.0 are.sound h.1 in
+        let source : IsSource g front_spot.number 0 h.0 = record { name = n; right = Name front_spot.name ∷ front_spot.after; rule = own_rule g front_spot.rule; within = omega arith; at = front_spot.front } in
         let some = (closing.waiting n (Contains-push work n)) in
-        let call = call_of_carried g opening.number 0 h.0 source (get_or old n []) m some.1 j.ahead h.2 some.2 h.3 in
-        let i : Item = record { rule = opening.number; dot = 0; ahead = call.0 } in
-        open_call i j m right (closing.sound n i (Name opening.name ∷ opening.after) call.1 opening.rule refl) call.2 rule dot
+        let call = call_of_carried g front_spot.number 0 h.0 source (get_or old n []) m some.1 j.ahead h.2 some.2 h.3 in
+        let i : Item = record { rule = front_spot.number; dot = 0; ahead = call.0 } in
+        open_call i j m right (closing.sound n i (Name front_spot.name ∷ front_spot.after) call.1 front_spot.rule refl) call.2 rule dot
 
     name_settled : get_or new n [] ≡ get_or old n [] → IsSettled g new n
     name_settled same r a m b right rule has call =
@@ -213,7 +222,6 @@ module _ (g : Grammar) (rows openings : List (List Spot)) (setting : IsSetting g
     pub closing_name : IsClosing g given given new later
     closing_name = record {
       count = row.grown.count ∙ closing.count;
-      sets = row.grown.sets;
       sound = λ m j right h rule dot. name_sound m j right rule dot (row.only m j.ahead h);
       settled = λ m. settled_by m (closing.settled m);
       waiting = λ m h. waiting_on old work new later row.grown closing.count (λ k c. closing.waiting k (Contains-append_left work (n ∷ []) k c)) m (row.grown.waiting m h);

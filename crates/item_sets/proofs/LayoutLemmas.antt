@@ -251,7 +251,7 @@ laid_end g kernel aheads next entries new laid e = subst (λ (es : List Entry). 
   only = laid.only;
 })
 
-module _ (g : Grammar) (rows openings : List (List Spot)) (setting : IsSetting g rows openings) (kernel : List Entry) (aheads : List (List ℕ)) (entries : List Entry)
+module _ (g : Grammar) (rows fronts : List (List Spot)) (setting : IsSetting g rows fronts) (kernel : List Entry) (aheads : List (List ℕ)) (entries : List Entry)
     (closing : IsClosing g kernel kernel aheads []) (out : IsLaidOut g kernel aheads entries) where
   have_known : (i : Item) → IsTrue (entries_have kernel i) ⊎ IsOpenedItem g aheads i → IsTrue (entries_have entries i)
   have_known i (inl h) = out.old i h
@@ -261,6 +261,6 @@ module _ (g : Grammar) (rows openings : List (List Spot)) (setting : IsSetting g
   closure_of = record {
     are = out.are;
     have = λ i.
-        let known = closure_known g rows openings setting kernel aheads closing i in
+        let known = closure_known g rows fronts setting kernel aheads closing i in
         (λ h. known.1 (out.only i h), λ c. have_known i (known.0 c));
   }

@@ -79,7 +79,7 @@ some_item g (e ∷ es) are some = let is = All-head (IsEntry g) e es are.each in
 
 -- ---- one step
 
-module _ (g : Grammar) (rows openings : List (List Spot)) (setting : IsSetting g rows openings) (states : List (List Entry)) (all : All (IsStateSet g) states) (steps : List (Option ℕ)) (p c : ℕ)
+module _ (g : Grammar) (rows fronts : List (List Spot)) (setting : IsSetting g rows fronts) (states : List (List Entry)) (all : All (IsStateSet g) states) (steps : List (Option ℕ)) (p c : ℕ)
     (less : c < g.tokens + g.names) (search : IsSearchAt g states steps p c) (set : List Entry) (here : slice_get states p ≡ Some set) where
   abbrev Kernel : List Entry
   Kernel = moved_entries rows c set
@@ -97,10 +97,10 @@ module _ (g : Grammar) (rows openings : List (List Spot)) (setting : IsSetting g
   valid_here i = search.rows.items p search.top set search.searched.here here i
 
   given_moved : (j : Item) → Given j → IsMoved g (IsValid g search.top) (symbol_at g c) j
-  given_moved j h = let m = kernel_sound g rows openings setting (symbol_at g c) c (column_at g c less) set own.each j h in (m.0, (valid_here m.0).0 m.1, m.2)
+  given_moved j h = let m = kernel_sound g rows fronts setting (symbol_at g c) c (column_at g c less) set own.each j h in (m.0, (valid_here m.0).0 m.1, m.2)
 
   moved_given : (j : Item) → IsMoved g (IsValid g search.top) (symbol_at g c) j → Given j
-  moved_given j (i, v, m) = kernel_whole g rows openings setting (symbol_at g c) c (column_at g c less) set own.each i j ((valid_here i).1 v) m
+  moved_given j (i, v, m) = kernel_whole g rows fronts setting (symbol_at g c) c (column_at g c less) set own.each i j ((valid_here i).1 v) m
 
   valid_closed : (i : Item) → IsValid g Word i → Closure g Given i
   valid_closed i v = closure_weaker moved_given ((moved_closure_law g setting.range search.top (symbol_at g c) i).0 v)
@@ -109,10 +109,10 @@ module _ (g : Grammar) (rows openings : List (List Spot)) (setting : IsSetting g
   closed_valid i k = (moved_closure_law g setting.range search.top (symbol_at g c) i).1 (closure_weaker given_moved k)
 
   kernel_are : AreEntries g Kernel
-  kernel_are = (kernel_is g rows openings setting (symbol_at g c) c (column_at g c less) set own).entries
+  kernel_are = (kernel_is g rows fronts setting (symbol_at g c) c (column_at g c less) set own).entries
 
   dots : All (λ (e : Entry). 0 < e.dot) Kernel
-  dots = kernel_dots g rows openings setting (symbol_at g c) c (column_at g c less) set
+  dots = kernel_dots g rows fronts setting (symbol_at g c) c (column_at g c less) set
 
   viable_some : Kernel ≢ [] → IsViable g Word
   viable_some some = let i = some_item g Kernel kernel_are some in (i.0, closed_valid i.0 (kept i.1))

@@ -56,7 +56,7 @@ heads e = cc
 abbrev pub moved_on : Entry → Entry
 moved_on e = record e { dot = e.dot + 1 }
 
-module _ (g : Grammar) (rows openings : List (List Spot)) (setting : IsSetting g rows openings) (x : Sym) (c : ℕ) (in_column : column_of g.tokens g.names x ≡ Some c) where
+module _ (g : Grammar) (rows fronts : List (List Spot)) (setting : IsSetting g rows fronts) (x : Sym) (c : ℕ) (in_column : column_of g.tokens g.names x ≡ Some c) where
   abbrev SpotAt : Entry → Option Spot
   SpotAt e = slice_get (get_or rows e.rule []) e.dot
 
@@ -95,7 +95,7 @@ module _ (g : Grammar) (rows openings : List (List Spot)) (setting : IsSetting g
   moved_whole : (e : Entry) → IsEntry g e → (i j : Item) → IsTrue (entry_has e i) → Moves g x i j → (moved_entry rows c e ≡ Some (moved_on e)) × IsTrue (entry_has (moved_on e) j)
   moved_whole e entry i j has (moves n before after dotted is) =
       let own = entry_parts e i has in
-      let found = spot_of g rows openings setting [] e.rule e.dot entry.name entry.right entry.rule (dot_within e entry i n before after x own.0 own.1 dotted) in
+      let found = spot_of g rows fronts setting [] e.rule e.dot entry.name entry.right entry.rule (dot_within e entry i n before after x own.0 own.1 dotted) in
       let source = found.2 in
       let same = dotted_once (source_dotted g e.rule e.dot found.0 source i (sym own.0) (sym own.1)) dotted in
       let here : found.0.symbol ≡ x = heads same.2 in

@@ -1,4 +1,4 @@
--- Grammars, their spots and their openings.
+-- Grammars, their spots and their fronts.
 use Rattle.std.proofs.Common.{◌≡◌, ℕ, ◌<◌, inl, inr, List, [], ◌∷◌, ◌++◌, length, get_or, slice_get, Option, Some, None, ◌+◌, refl, sym, ap, subst, ◌∙◌, arith}
 use Rattle.std.specs.Option.{option_map}
 use Rattle.std.proofs.lemmas.Bool.{cases_eq}
@@ -15,7 +15,7 @@ use Rattle.grammar_theory.proofs.RuleLemmas.{rule_once}
 use Rattle.item_theory.specs.Items.{augmented_rule}
 use Rattle.item_theory.proofs.ItemLemmas.{own_rule, WhichRule, is_own, is_last, which_rule}
 use Rattle.item_sets.specs.declared.spot.Spot.{Spot}
-use Rattle.item_sets.specs.Spots.{IsRestBy, IsRest, IsSpotAt, AreSpots, AreRuleSpots, IsOpening, AreOpeningsBelow}
+use Rattle.item_sets.specs.Spots.{IsRestBy, IsRest, IsSpotAt, AreSpots, AreRuleSpots, IsFront, AreFrontsBelow}
 
 -- ---- rests
 
@@ -53,7 +53,7 @@ no_opening g (s ∷ ss) x xs are e = absurd (cc)
 pub front_symbol : (g : Grammar) (spots : List Spot) (spot : Spot) (x : Sym) (xs : List Sym) → AreSpots g (x ∷ xs) spots → slice_get spots 0 ≡ Some spot → spot.symbol ≡ x
 front_symbol g spots spot x xs are e = let at = are.each 0 spot e in let same : x ∷ xs ≡ spot.symbol ∷ at.after = at.behind in cc
 
--- ---- openings
+-- ---- fronts
 
 first_same : {X : Type 0} {y z : X} {ys zs : List X} → y ∷ ys ≡ z ∷ zs → (y ≡ z) × (ys ≡ zs)
 first_same e = (cc, cc)
@@ -98,11 +98,11 @@ token_opened g rows r n row front spot a at is m after rule = let e = front_symb
 pub other_left : (g : Grammar) (r n k m : ℕ) (after : List Sym) → option_map (λ (rule : Rule). rule.0) (slice_get g.rules r) ≡ Some k → (k ≡ n → ⊥) → IsRule g.rules r n (Name m ∷ after) → ⊥
 other_left g r n k m after left apart rule = apart (same_Some _ _ (sym left ∙ ap (option_map (λ (p : Rule). p.0)) rule.found))
 
--- ---- the openings of one more rule
+-- ---- the fronts of one more rule
 
-module _ (g : Grammar) (limit n : ℕ) (spots : List Spot) (below : AreOpeningsBelow g limit n spots) where
-  pub openings_kept : ((m : ℕ) (after : List Sym) → IsRule g.rules limit n (Name m ∷ after) → ⊥) → AreOpeningsBelow g (limit + 1) n spots
-  openings_kept none = record {
+module _ (g : Grammar) (limit n : ℕ) (spots : List Spot) (below : AreFrontsBelow g limit n spots) where
+  pub fronts_kept : ((m : ℕ) (after : List Sym) → IsRule g.rules limit n (Name m ∷ after) → ⊥) → AreFrontsBelow g (limit + 1) n spots
+  fronts_kept none = record {
     sound = below.sound;
     whole = λ r m after less rule. elim (cases_eq r limit) [
       | inl e ↦ absurd (none m after (subst (λ k. IsRule g.rules k n (Name m ∷ after)) e rule))
@@ -113,9 +113,9 @@ module _ (g : Grammar) (limit n : ℕ) (spots : List Spot) (below : AreOpeningsB
   last_opening : (spot : Spot) (q m : ℕ) (others after : List Sym) → IsRule g.rules limit n (Name q ∷ others) → IsSpotAt g (Name q ∷ others) 0 spot → IsRule g.rules limit n (Name m ∷ after) → IsSpotAt g (Name m ∷ after) 0 spot
   last_opening spot q m others after rule at other = subst (λ l. IsSpotAt g l 0 spot) (rule_once rule other).1 at
 
-  pub openings_pushed : (spot : Spot) (q : ℕ) (others : List Sym) → IsRule g.rules limit n (Name q ∷ others) → IsSpotAt g (Name q ∷ others) 0 spot → AreOpeningsBelow g (limit + 1) n (spots ++ spot ∷ [])
-  openings_pushed spot q others own at = record {
-    sound = All-push (IsOpening g n) spots spot below.sound (record { number = limit; name = q; after = others; rule = own; front = at });
+  pub fronts_pushed : (spot : Spot) (q : ℕ) (others : List Sym) → IsRule g.rules limit n (Name q ∷ others) → IsSpotAt g (Name q ∷ others) 0 spot → AreFrontsBelow g (limit + 1) n (spots ++ spot ∷ [])
+  fronts_pushed spot q others own at = record {
+    sound = All-push (IsFront g n) spots spot below.sound (record { number = limit; name = q; after = others; rule = own; front = at });
     whole = λ r m after less rule. elim (cases_eq r limit) [
       | inl e ↦ (spot, Contains-push spots spot, last_opening spot q m others after own at (subst (λ k. IsRule g.rules k n (Name m ∷ after)) e rule))
       | inr ne ↦ (let old = below.whole r m after (omega arith) rule in (old.0, Contains-append_left spots (spot ∷ []) old.0 old.1, old.2))

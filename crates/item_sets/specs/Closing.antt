@@ -1,6 +1,6 @@
 -- How a closure is found: name by name the lookaheads with which the rules of the name stand with the dot in front, and
 -- a list of the names whose lookaheads grew since their rules were last looked at.
-use Rattle.std.specs.Prelude.{◌≡◌, ℕ, zero, suc, ◌+◌, ◌*◌, ◌<◌, ◌≤◌, ◌⊎◌, Bool, ◌||◌, ◌&&◌, true, false, IsTrue, List, [], ◌∷◌, length, slice_index_or, sum_by, All, Contains}
+use Rattle.std.specs.Prelude.{◌≡◌, ℕ, zero, suc, ◌+◌, ◌*◌, ◌<◌, ◌≤◌, ◌⊎◌, Bool, ◌||◌, ◌&&◌, true, false, IsTrue, List, [], ◌∷◌, ◌++◌, length, slice_index_or, sum_by, All, Contains}
 use Rattle.grammar_data.specs.declared.rule.Sym.{Sym}
 use Rattle.grammar_data.specs.declared.rule.Sym.TheVariants.{Token, Name}
 use Rattle.grammar_data.specs.Grammar.{Grammar}
@@ -22,6 +22,29 @@ ahead_in aheads n a = has_token (slice_index_or aheads n []) a
 -- the lookahead is found behind the spot's symbol, or passed on from the lookaheads behind
 abbrev pub carries : Spot → List ℕ → ℕ → Bool
 carries spot from b = has_token spot.first b || (spot.passes && has_token from b)
+
+-- what is found of a closure: name by name the lookaheads, and the names that wait
+pub record PartClosure : Type 0 where
+  pub aheads : List (List ℕ)
+  pub work : List ℕ
+
+-- nothing is found yet of so many names
+pub record IsUnopened (names : ℕ) (c : PartClosure) : Type 0 where
+  pub count : length c.aheads ≡ names
+  pub none : (n a : ℕ) → ahead_in c.aheads n a ≡ false
+  pub work : c.work ≡ []
+
+-- the lookaheads are sets, the waiting names are in range, and each marked name waits
+pub record IsMarked (aheads : List (List ℕ)) (work : List ℕ) (waits : List Bool) : Type 0 where
+  pub sets : All IsTokenSet aheads
+  pub count : length waits ≡ length aheads
+  pub within : (n : ℕ) → Contains work n → n < length aheads
+  pub waiting : (n : ℕ) → IsTrue (slice_index_or waits n false) → Contains work n
+
+-- the last of the waiting names waits no more
+pub record IsNext (n : ℕ) (old new : PartClosure) : Type 0 where
+  pub aheads : new.aheads ≡ old.aheads
+  pub work : old.work ≡ new.work ++ n ∷ []
 
 -- 1 for a token that is lacking
 abbrev pub lack : Bool → ℕ
@@ -45,7 +68,6 @@ IsNameWithin bound (Name n) = n < bound
 -- no lookahead is lost; a name whose lookaheads grew is in the later list, as is each of the earlier one
 pub record IsGrown (old : List (List ℕ)) (work : List ℕ) (new : List (List ℕ)) (later : List ℕ) : Type 0 where
   pub count : length new ≡ length old
-  pub sets : All IsTokenSet new
   pub kept : (n a : ℕ) → IsTrue (ahead_in old n a) → IsTrue (ahead_in new n a)
   pub noted : (n : ℕ) → Contains later n ⊎ (slice_index_or new n [] ≡ slice_index_or old n [])
   pub works : (n : ℕ) → Contains work n → Contains later n
@@ -59,16 +81,16 @@ pub record IsRowOpened (spots : List Spot) (from : List ℕ) (old : List (List �
   pub only : (m b : ℕ) → IsTrue (ahead_in new m b) → IsTrue (ahead_in old m b) ⊎ ((spot : Spot) × Contains spots spot × (spot.symbol ≡ Name m) × IsTrue (carries spot from b))
 
 -- the name got the lookaheads, and nothing else was added
-pub record IsJoined (n : ℕ) (tokens : List ℕ) (old : List (List ℕ)) (work : List ℕ) (new : List (List ℕ)) (later : List ℕ) : Type 0 where
+pub record IsAdded (n : ℕ) (tokens : List ℕ) (old : List (List ℕ)) (work : List ℕ) (new : List (List ℕ)) (later : List ℕ) : Type 0 where
   pub grown : IsGrown old work new later
   pub has : (b : ℕ) → IsTrue (has_token tokens b) → IsTrue (ahead_in new n b)
   pub only : (m b : ℕ) → IsTrue (ahead_in new m b) → IsTrue (ahead_in old m b) ⊎ ((m ≡ n) × IsTrue (has_token tokens b))
 
 -- what the table's makers know of the grammar
-pub record IsSetting (g : Grammar) (rows openings : List (List Spot)) : Type 0 where
+pub record IsSetting (g : Grammar) (rows fronts : List (List Spot)) : Type 0 where
   pub range : IsInRange g
   pub productive : AllProductive g
-  pub table : IsTable g rows openings
+  pub table : IsTable g rows fronts
   pub few : g.tokens + g.names < 1000
   pub few_tokens : g.tokens < 256
   pub short : All (λ row. length row ≤ 20) rows
@@ -90,7 +112,6 @@ IsSettled g aheads n = (r a m b : ℕ) (right : List Sym) → IsRule g.rules r n
 -- each name was looked at with all its lookaheads or is in the list
 pub record IsClosing (g : Grammar) (given seeded : List Entry) (aheads : List (List ℕ)) (work : List ℕ) : Type 0 where
   pub count : length aheads ≡ g.names
-  pub sets : All IsTokenSet aheads
   pub sound : (n : ℕ) (j : Item) (right : List Sym) → IsTrue (ahead_in aheads n j.ahead) → IsRule g.rules j.rule n right → j.dot ≡ 0 → Closure g (λ i. IsTrue (entries_have given i)) j
   pub settled : (n : ℕ) → Contains work n ⊎ IsSettled g aheads n
   pub waiting : (n : ℕ) → Contains work n → (n < g.names) × (a : ℕ) × IsTrue (ahead_in aheads n a)

@@ -43,7 +43,7 @@ pub record AreRuleSpots (g : Grammar) (rows : List (List Spot)) : Type 0 where
   pub each : (r n : ℕ) (right : List Sym) → IsRule (all_rules g) r n right → AreSpots g right (slice_index_or rows r [])
 
 -- the spot is that in front of a rule of the name, and the symbol there is a name
-pub record IsOpening (g : Grammar) (n : ℕ) (spot : Spot) : Type 0 where
+pub record IsFront (g : Grammar) (n : ℕ) (spot : Spot) : Type 0 where
   pub number : ℕ
   pub name : ℕ
   pub after : List Sym
@@ -51,15 +51,15 @@ pub record IsOpening (g : Grammar) (n : ℕ) (spot : Spot) : Type 0 where
   pub front : IsSpotAt g (Name name ∷ after) 0 spot
 
 -- the spots are those in front of the name's first rules, so many in all, with a name there
-pub record AreOpeningsBelow (g : Grammar) (limit n : ℕ) (spots : List Spot) : Type 0 where
-  pub sound : All (IsOpening g n) spots
+pub record AreFrontsBelow (g : Grammar) (limit n : ℕ) (spots : List Spot) : Type 0 where
+  pub sound : All (IsFront g n) spots
   pub whole : (r m : ℕ) (after : List Sym) → r < limit → IsRule g.rules r n (Name m ∷ after) → (spot : Spot) × Contains spots spot × IsSpotAt g (Name m ∷ after) 0 spot
 
-abbrev pub AreOpenings : Grammar → ℕ → List Spot → Type 0
-AreOpenings g n spots = AreOpeningsBelow g (length g.rules) n spots
+abbrev pub AreFronts : Grammar → ℕ → List Spot → Type 0
+AreFronts g n spots = AreFrontsBelow g (length g.rules) n spots
 
 -- the spots of all rules, and name by name those in front of its rules with a name there
-pub record IsTable (g : Grammar) (rows openings : List (List Spot)) : Type 0 where
+pub record IsTable (g : Grammar) (rows fronts : List (List Spot)) : Type 0 where
   pub spots : AreRuleSpots g rows
-  pub count : length openings ≡ g.names
-  pub each : (n : ℕ) → n < g.names → AreOpenings g n (slice_index_or openings n [])
+  pub count : length fronts ≡ g.names
+  pub each : (n : ℕ) → n < g.names → AreFronts g n (slice_index_or fronts n [])

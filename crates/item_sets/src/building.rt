@@ -17,8 +17,12 @@ use crate::table::Table;
 use collection_data::Entry;
 use first_sets::Firsts;
 use lr_base::{Grammar, RuleId, StateId, TokenSet};
+use state_cells::StateCell;
 use std::alloc::{AllocError, Global};
 use std::collections::HashMap;
+
+/// For how many states there is room at first in the list of the steps.
+const FIRST_ROWS: usize = 64;
 
 /// The entry of the augmented rule with the dot in front and the end mark.
 fn first_entry(grammar: &Grammar) -> Entry
@@ -36,7 +40,7 @@ fn first_entry(grammar: &Grammar) -> Entry
 
 /// State 0 alone.
 fn first_state(alloc: Global, grammar: &Grammar, table: &Table) -> Result<States, AllocError>
-    requires setting { IsSetting grammar.now table.now.rows.items table.now.openings.items }
+    requires setting { IsSetting grammar.now table.now.rows.items table.now.fronts.items }
     ensures count { IfOk result (λ states. length states.sets.items ≡ 1) }
     ensures sets { IfOk result (λ states. All (IsStateSet grammar.now) states.sets.items) }
     ensures finds { IfOk result (λ states. FindsStates states.found states.sets.items) }
@@ -57,10 +61,10 @@ fn expand(
     grammar: &Grammar,
     table: &Table,
     states: &mut States,
-    steps: &mut Vec<Option<StateId>>,
+    steps: &mut Vec<StateCell>,
     state: usize,
 ) -> Result<(), CollectFault>
-    requires setting { IsSetting grammar.now table.now.rows.items table.now.openings.items }
+    requires setting { IsSetting grammar.now table.now.rows.items table.now.fronts.items }
     requires few { length states.old.sets.items ≤ 10000 }
     requires sets { All (IsStateSet grammar.now) states.old.sets.items }
     requires finds { FindsStates states.old.found states.old.sets.items }
@@ -78,7 +82,7 @@ fn expand(
     let kernels = successors(alloc, table, width, &set.entries)?;
     for kernel in &kernels {
         match step_to(alloc, grammar, table, states, &kernel.entries) {
-            Ok(step) => steps.push(step)?,
+            Ok(step) => steps.push(StateCell::of(step))?,
             Err(fault) => return Err(fault),
         }
     }
@@ -100,7 +104,10 @@ pub fn collect(
 {
     let table = Table::new(alloc, grammar, firsts)?;
     let mut states = first_state(alloc, grammar, &table)?;
-    let mut steps = Vec::new(alloc);
+    let tokens = grammar.tokens();
+    let names = grammar.names();
+    let width = tokens as usize + names as usize;
+    let mut steps = Vec::with_capacity(alloc, FIRST_ROWS * width)?;
     let mut state = 0;
     while state < states.sets.len() {
         match expand(alloc, grammar, &table, &mut states, &mut steps, state) {
@@ -109,5 +116,5 @@ pub fn collect(
         }
     }
     let States { sets, found: _ } = states;
-    Ok(Collection::from_parts(grammar.tokens(), grammar.names(), sets, steps))
+    Ok(Collection::from_parts(tokens, names, sets, steps))
 }

@@ -4,15 +4,17 @@ ghost use Rattle.collection_data.specs.Collection.{column_of, items_in, state_co
 use crate::item_set::ItemSet;
 use collection_data::Entry;
 use grammar_data::{StateId, Sym};
+use state_cells::StateCell;
 use std::marker::Model;
 
-/// The canonical collection of a grammar: its states in their order, the entries of each, and the steps.
+/// The canonical collection of a grammar: its states in their order, the entries of each, and the steps, one state's
+/// after the other's, 4 bytes each.
 #[derive(Debug, Drop)]
 pub struct Collection {
     tokens: u32,
     names: u32,
     states: Vec<ItemSet>,
-    steps: Vec<Option<StateId>>,
+    steps: Vec<StateCell>,
 }
 
 impl Model for Collection {
@@ -46,7 +48,7 @@ impl Collection {
         tokens: u32,
         names: u32,
         states: Vec<ItemSet>,
-        steps: Vec<Option<StateId>>,
+        steps: Vec<StateCell>,
     ) -> Collection
         requires few_symbols { tokens + names < 1000 }
         requires few_states { length states.items ≤ 10000 }
@@ -85,7 +87,7 @@ impl Collection {
         match column(symbol, self.tokens, self.names) {
             Some(column) => {
                 let width = self.tokens as usize + self.names as usize;
-                self.steps[state.0 as usize * width + column as usize]
+                self.steps[state.0 as usize * width + column as usize].state()
             }
             None => None,
         }

@@ -74,7 +74,7 @@ pub fn closure(
     table: &Table,
     kernel: &[Entry],
 ) -> Result<ItemSet, AllocError>
-    requires setting { IsSetting grammar.now table.now.rows.items table.now.openings.items }
+    requires setting { IsSetting grammar.now table.now.rows.items table.now.fronts.items }
     requires kernel { IsKernel grammar.now kernel.now }
     ensures { IfOk result (λ set. IsClosureOf grammar.now kernel.now set) }
 {

@@ -34,7 +34,7 @@ fn add(
     kernel: &[Entry],
     key: Vec<u64>,
 ) -> Result<StateId, CollectFault>
-    requires setting { IsSetting grammar.now table.now.rows.items table.now.openings.items }
+    requires setting { IsSetting grammar.now table.now.rows.items table.now.fronts.items }
     requires kernel { IsKernel grammar.now kernel.now }
     requires moved { All (λ (e : Lookaheads). 0 < e.dot) kernel.now }
     requires key { key.items ≡ key_of kernel.now }
@@ -66,7 +66,7 @@ fn find_or_add(
     states: &mut States,
     kernel: &[Entry],
 ) -> Result<StateId, CollectFault>
-    requires setting { IsSetting grammar.now table.now.rows.items table.now.openings.items }
+    requires setting { IsSetting grammar.now table.now.rows.items table.now.fronts.items }
     requires kernel { IsKernel grammar.now kernel.now }
     requires moved { All (λ (e : Lookaheads). 0 < e.dot) kernel.now }
     requires few { length states.old.sets.items ≤ 10000 }
@@ -93,7 +93,7 @@ pub fn step_to(
     states: &mut States,
     kernel: &[Entry],
 ) -> Result<Option<StateId>, CollectFault>
-    requires setting { IsSetting grammar.now table.now.rows.items table.now.openings.items }
+    requires setting { IsSetting grammar.now table.now.rows.items table.now.fronts.items }
     requires kernel { IsKernel grammar.now kernel.now }
     requires moved { All (λ (e : Lookaheads). 0 < e.dot) kernel.now }
     requires few { length states.old.sets.items ≤ 10000 }

@@ -5,7 +5,7 @@ ghost use Rattle.grammar_theory.specs.Rules.{IsRule};
 ghost use Rattle.grammar_theory.specs.UsefulNames.{AllProductive};
 ghost use Rattle.lr_base.specs.IsGrammar.{IsGrammar};
 ghost use Rattle.first_sets.specs.NameFacts.{AreFirsts};
-ghost use Rattle.item_sets.specs.Spots.{AreOpenings, AreRuleSpots, IsSpotAt};
+ghost use Rattle.item_sets.specs.Spots.{AreFronts, AreRuleSpots, IsSpotAt};
 ghost use Rattle.item_sets.specs.Closing.{IsSetting};
 
 use crate::spot::{Spot, Spots, spots_of};
@@ -17,7 +17,7 @@ use std::alloc::{AllocError, Global};
 #[derive(Debug, Drop)]
 pub struct Table {
     pub rows: Vec<Spots>,
-    pub openings: Vec<Spots>,
+    pub fronts: Vec<Spots>,
 }
 
 /// The spots of all rules.
@@ -37,7 +37,12 @@ fn rows_of(alloc: Global, grammar: &Grammar, firsts: &Firsts) -> Result<Vec<Spot
 }
 
 /// The spot in front of the rule, if the name has the rule and a name stands there.
-fn opening<'a>(grammar: &Grammar, rows: &'a [Spots], rule: RuleId, name: NameId) -> Option<&'a Spot>
+fn front_spot<'a>(
+    grammar: &Grammar,
+    rows: &'a [Spots],
+    rule: RuleId,
+    name: NameId,
+) -> Option<&'a Spot>
     requires rows { AreRuleSpots grammar.now rows.now }
     requires rule { rule < length grammar.now.rules }
     ensures { MatchOption result
@@ -58,18 +63,18 @@ fn opening<'a>(grammar: &Grammar, rows: &'a [Spots], rule: RuleId, name: NameId)
 }
 
 /// The spots in front of the name's rules where a name stands.
-fn openings_of(
+fn fronts_of(
     alloc: Global,
     grammar: &Grammar,
     rows: &[Spots],
     name: NameId,
 ) -> Result<Spots, AllocError>
     requires rows { AreRuleSpots grammar.now rows.now }
-    ensures { IfOk result (λ spots. AreOpenings grammar.now name spots) }
+    ensures { IfOk result (λ spots. AreFronts grammar.now name spots) }
 {
     let mut spots = Vec::new(alloc);
     for rule in 0..grammar.rule_count() {
-        if let Some(spot) = opening(grammar, rows, RuleId(rule), name) {
+        if let Some(spot) = front_spot(grammar, rows, RuleId(rule), name) {
             spots.push(*spot)?;
         }
     }
@@ -81,13 +86,13 @@ impl Table {
     pub fn new(alloc: Global, grammar: &Grammar, firsts: &Firsts) -> Result<Table, AllocError>
         requires productive { AllProductive grammar.now }
         requires facts { AreFirsts grammar.now firsts.now }
-        ensures { IfOk result (λ table. IsSetting grammar.now table.rows.items table.openings.items) }
+        ensures { IfOk result (λ table. IsSetting grammar.now table.rows.items table.fronts.items) }
     {
         let rows = rows_of(alloc, grammar, firsts)?;
-        let mut openings = Vec::with_capacity(alloc, grammar.names() as usize)?;
+        let mut fronts = Vec::with_capacity(alloc, grammar.names() as usize)?;
         for name in 0..grammar.names() {
-            openings.push(openings_of(alloc, grammar, &rows, NameId(name))?)?;
+            fronts.push(fronts_of(alloc, grammar, &rows, NameId(name))?)?;
         }
-        Ok(Table { rows, openings })
+        Ok(Table { rows, fronts })
     }
 }

@@ -1,18 +1,18 @@
-use Rattle.std.proofs.Common.{◌≡◌, ◌≢◌, ℕ, ◌+◌, ◌<◌, List, [], length, get_or, slice_get, Option, Some, refl, sym, ap, subst, ◌∙◌, arith}
+use Rattle.std.proofs.Common.{◌≡◌, ◌++◌, ◌∷◌, ◌≢◌, ℕ, ◌+◌, ◌<◌, List, [], length, get_or, slice_get, Option, Some, refl, sym, ap, subst, ◌∙◌, arith}
 use Rattle.std.proofs.lemmas.Option.{slice_get_read, slice_get_within}
 use Rattle.collection_data.specs.declared.entry.Entry.{Entry}
 use Rattle.item_sets.specs.Successors.{moved_entries}
 use Rattle.item_sets.specs.Searching.{IsNewKernel, IsSearchAt, IsStepFound}
 use Rattle.item_sets.proofs.StateFinding.{set_at_state}
 use Rattle.item_sets.proofs.StepLemmas.{search_step, search_before, more_states}
-use Rattle.item_sets.proofs.SettingLemmas.{kernel_at, kernel_here, dots_here, step_keeps}
+use Rattle.item_sets.proofs.SettingLemmas.{kernel_at, kernel_here, dots_here, step_keeps, step_below}
 use Rattle.item_sets.proofs.building.expand.Goals as goal
 
 pub step_to-requires-clause-kernel : goal.step_to-requires-clause-kernel
 step_to-requires-clause-kernel c =
     let g = c.args.grammar.now in
     let rows = c.args.table.now.rows.items in
-    let openings = c.args.table.now.openings.items in
+    let fronts = c.args.table.now.fronts.items in
     let p = c.args.state in
     let states = c.args.states.now.sets.items in
     let set = c.deref.result.now in
@@ -25,13 +25,13 @@ step_to-requires-clause-kernel c =
     let less : k < g.tokens + g.names = omega (arith, c.in_ok-kernels.ensures.count) in
     let is : kernel ≡ get_or kernels k kernel = cc in
     let moved : kernel ≡ moved_entries rows k set = kernel_at rows _ set kernels c.in_ok-kernels.ensures k inside kernel is in
-    kernel_here g rows openings c.requires.setting set (set_at_state g states c.requires.sets p set at).are k less kernel moved
+    kernel_here g rows fronts c.requires.setting set (set_at_state g states c.requires.sets p set at).are k less kernel moved
 
 pub step_to-requires-clause-moved : goal.step_to-requires-clause-moved
 step_to-requires-clause-moved c =
     let g = c.args.grammar.now in
     let rows = c.args.table.now.rows.items in
-    let openings = c.args.table.now.openings.items in
+    let fronts = c.args.table.now.fronts.items in
     let p = c.args.state in
     let states = c.args.states.now.sets.items in
     let set = c.deref.result.now in
@@ -44,13 +44,16 @@ step_to-requires-clause-moved c =
     let less : k < g.tokens + g.names = omega (arith, c.in_ok-kernels.ensures.count) in
     let is : kernel ≡ get_or kernels k kernel = cc in
     let moved : kernel ≡ moved_entries rows k set = kernel_at rows _ set kernels c.in_ok-kernels.ensures k inside kernel is in
-    dots_here g rows openings c.requires.setting set (set_at_state g states c.requires.sets p set at).are k less kernel moved
+    dots_here g rows fronts c.requires.setting set (set_at_state g states c.requires.sets p set at).are k less kernel moved
+
+pub of-requires : goal.of-requires
+of-requires c = step_below c.args.grammar.now c.deref-in-loop-kernel.result.now c.loop-kernel.states.sets.items c.step_to.new.states.sets.items c.in-Ok.step c.in-Ok.ensures.step c.in-Ok.ensures.few
 
 pub returns-in-Err-clause-many : goal.returns-in-Err-clause-many
 returns-in-Err-clause-many c = λ same.
     let g = c.args.grammar.now in
     let rows = c.args.table.now.rows.items in
-    let openings = c.args.table.now.openings.items in
+    let fronts = c.args.table.now.fronts.items in
     let p = c.args.state in
     let states = c.args.states.now.sets.items in
     let set = c.deref.result.now in
@@ -66,14 +69,14 @@ returns-in-Err-clause-many c = λ same.
     let now = c.loop-kernel.states.sets.items in
     let at_now : slice_get now p ≡ Some set = c.loop-kernel.invariant.here ∙ at in
     let h = c.in-Err.ensures.many same in
-    more_states g rows openings c.requires.setting now c.loop-kernel.invariant.sets c.loop-kernel.steps.items p k less c.loop-kernel.invariant.search set at_now 10000 h.1
+    more_states g rows fronts c.requires.setting now c.loop-kernel.invariant.sets c.loop-kernel.steps.items p k less c.loop-kernel.invariant.search set at_now 10000 h.1
     (subst (λ (l : List Entry). l ≢ []) moved h.0) (subst (λ (l : List Entry). IsNewKernel now l) moved h.2)
 
 pub loop-kernel-preserved : goal.loop-kernel-preserved
 loop-kernel-preserved c =
     let g = c.args.grammar.now in
     let rows = c.args.table.now.rows.items in
-    let openings = c.args.table.now.openings.items in
+    let fronts = c.args.table.now.fronts.items in
     let p = c.args.state in
     let states = c.args.states.now.sets.items in
     let set = c.deref.result.now in
@@ -95,8 +98,8 @@ loop-kernel-preserved c =
       sets = c.in-Ok.ensures.sets;
       finds = c.in-Ok.ensures.finds;
       here = step_keeps g kernel now new c.in-Ok.step step p set at_now ∙ sym at;
-      search = subst (λ (l : List (Option ℕ)). IsSearchAt g new l p (k + 1)) (sym c.in_ok-push-in-Ok.ensures.items)
-          (search_step g rows openings c.requires.setting now c.loop-kernel.invariant.sets c.loop-kernel.steps.items p k less c.loop-kernel.invariant.search set at_now new c.in-Ok.step
+      search = subst (λ (l : List (Option ℕ)). IsSearchAt g new l p (k + 1)) (sym (c.in_ok-push-in-Ok.ensures.items ∙ ap (λ (o : Option ℕ). c.loop-kernel.steps.items ++ o ∷ []) c.of.ensures))
+          (search_step g rows fronts c.requires.setting now c.loop-kernel.invariant.sets c.loop-kernel.steps.items p k less c.loop-kernel.invariant.search set at_now new c.in-Ok.step
           (subst (λ (l : List Entry). IsStepFound g l now new c.in-Ok.step) moved step));
     }
 
@@ -111,7 +114,7 @@ pub returns-clause-within : goal.returns-clause-within
 returns-clause-within c =
     let g = c.args.grammar.now in
     let rows = c.args.table.now.rows.items in
-    let openings = c.args.table.now.openings.items in
+    let fronts = c.args.table.now.fronts.items in
     let p = c.args.state in
     let states = c.args.states.now.sets.items in
     let set = c.deref.result.now in

@@ -3,10 +3,10 @@ use Rattle.item_sets.specs.Closing.{IsClosing, missing}
 use Rattle.item_sets.proofs.closing.close.Given as goal
 
 abbrev pub invariant-loop-entry : goal.invariant-loop-entry
-invariant-loop-entry l = IsClosing l.fn.grammar l.kernel (take l.entry-index l.kernel) l.aheads.items l.work.items
+invariant-loop-entry l = IsClosing l.fn.grammar l.kernel (take l.entry-index l.kernel) l.closing.aheads l.closing.work
 
 abbrev pub invariant-loop-name : goal.invariant-loop-name
-invariant-loop-name l = IsClosing l.fn.grammar l.fn.kernel l.fn.kernel l.aheads.items l.work.items
+invariant-loop-name l = IsClosing l.fn.grammar l.fn.kernel l.fn.kernel l.closing.aheads l.closing.work
 
 abbrev pub decreases-loop-name : goal.decreases-loop-name
-decreases-loop-name l = 2 * missing l.aheads.items + length l.work.items
+decreases-loop-name l = 2 * missing l.closing.aheads + length l.closing.work

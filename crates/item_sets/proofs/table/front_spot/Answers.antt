@@ -1,7 +1,7 @@
 use Rattle.std.proofs.Common.{◌≡◌, sym, ap, ◌∙◌, get_or, slice_get, Some}
 use Rattle.std.proofs.lemmas.Bool.{eqb-true, not-false}
 use Rattle.item_sets.proofs.TableLemmas.{IsFrontOf, opened, not_opened, token_opened}
-use Rattle.item_sets.proofs.table.opening.Goals as goal
+use Rattle.item_sets.proofs.table.front_spot.Goals as goal
 
 pub returns-in-Name : goal.returns-in-Name
 returns-in-Name c =
