@@ -1,7 +1,8 @@
 //! Items and conflicts.
 ghost use Rattle.std.specs.Prelude.{◌≡◌, ◌++◌, codes, decimal, IfOk, OnOk};
 ghost use Rattle.report_theory.specs.ItemTexts.{token_text, item_text as text_of_item, conflict_text as text_of_conflict};
-ghost use Rattle.report_theory.specs.Belonging.{IsItemIn, IsConflictIn};
+ghost use Rattle.item_theory.specs.Items.{IsItemOf};
+ghost use Rattle.report_theory.specs.Belonging.{IsConflictIn};
 
 use crate::printer::Printer;
 use crate::words::push_number;
@@ -14,7 +15,7 @@ use std::alloc::Global;
 /// rule), ` :`, a space and the printed name for each symbol with ` .` at the dot's place, ` , ` and the printed name of
 /// the lookahead.
 pub fn item_text(alloc: Global, sheet: &Sheet, item: &Item) -> Result<Vec<u8>, NoMemory>
-    requires { IsItemIn sheet.now.grammar item.now }
+    requires { IsItemOf sheet.now.grammar item.now }
     ensures { IfOk result (λ text. text.items ≡ text_of_item sheet.now item.now) }
 {
     let printer = Printer::new(sheet)?;

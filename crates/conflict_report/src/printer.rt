@@ -2,8 +2,8 @@
 ghost use Rattle.std.specs.Prelude.{◌≡◌, ◌≤◌, ◌++◌, length, All, IfOk, OnOk};
 ghost use Rattle.lr_base.specs.IsGrammar.{IsSymbolOf};
 ghost use Rattle.outline_theory.specs.Layout.{symbol_text};
-ghost use Rattle.report_theory.specs.ItemTexts.{behind_space, token_text, symbols_text, dotted_side, dotted_rule, indented, item_text};
-ghost use Rattle.report_theory.specs.Belonging.{IsDotted, IsItemIn};
+ghost use Rattle.report_theory.specs.ItemTexts.{behind_space, token_text, symbols_text, rule_at, dotted_side, dotted_rule, indented, item_text};
+ghost use Rattle.item_theory.specs.Items.{IsItemOf};
 
 use crate::words::push_word;
 use grammar_faults::Item;
@@ -103,7 +103,8 @@ impl<'a> Printer<'a> {
         rule: RuleId,
         dot: u32,
     ) -> Result<(), NoMemory>
-        requires { IsDotted self.now.grammar rule dot }
+        requires rule { rule ≤ length self.now.grammar.rules }
+        requires dot { dot ≤ length (rule_at self.now.grammar rule).1 }
         ensures { OnOk result (text.new.items ≡ text.old.items ++ dotted_rule self.now rule dot) }
     {
         let grammar = self.sheet.grammar();
@@ -122,7 +123,7 @@ impl<'a> Printer<'a> {
 
     /// Adds an item.
     pub(crate) fn push_item(&self, text: &mut Vec<u8>, item: &Item) -> Result<(), NoMemory>
-        requires { IsItemIn self.now.grammar item.now }
+        requires { IsItemOf self.now.grammar item.now }
         ensures { OnOk result (text.new.items ≡ text.old.items ++ item_text self.now item.now) }
     {
         self.push_rule(text, item.rule, item.dot)?;
@@ -132,7 +133,7 @@ impl<'a> Printer<'a> {
 
     /// Adds an item on a line that begins with two spaces.
     pub(crate) fn push_item_line(&self, text: &mut Vec<u8>, item: &Item) -> Result<(), NoMemory>
-        requires { IsItemIn self.now.grammar item.now }
+        requires { IsItemOf self.now.grammar item.now }
         ensures { OnOk result (text.new.items ≡ text.old.items ++ indented (item_text self.now item.now)) }
     {
         text.extend_from_slice(b"  ")?;

@@ -2,13 +2,12 @@
 //! grammar. Definitions and laws alone.
 #![tactic(auto)]
 
-ghost use Rattle.report_theory.specs.Belonging.{ValidItemLaw, ConflictInLaw};
+ghost use Rattle.report_theory.specs.Belonging.{ConflictInLaw};
 ghost use Rattle.report_theory.specs.SameTexts.{OneTextLaw};
 
-/// An item that is valid for some list of symbols belongs to the grammar, and so does its first conflict.
-pub fn belonging_laws()
-    ensures item { ValidItemLaw }
-    ensures conflict { ConflictInLaw }
+/// The first conflict of a grammar belongs to it.
+pub fn conflict_in_law()
+    ensures { ConflictInLaw }
 {}
 
 /// The collection and the canonical tables of a sheet's grammar print in one way.
