@@ -118,7 +118,7 @@ pub reduces_once : {t : Tables} {base a : ℕ} {s next other : List Entry} → R
 reduces_once {t} {base} (reduces taken rest act rule parts len goto at) (reduces given left other_act other_rule other_parts many other_goto too) =
     at ∙ reduces_by_rule t base taken given rest left (same_rule (sym act ∙ other_act)) rule other_rule parts other_parts len many goto other_goto ∙ sym too
 
-act_of : {t : Tables} {base a : ℕ} {s next : List Entry} → Reduces t base a s next → (r : ℕ) × (act_in t (top base s) a ≡ Reduce r)
+pub act_of : {t : Tables} {base a : ℕ} {s next : List Entry} → Reduces t base a s next → (r : ℕ) × (act_in t (top base s) a ≡ Reduce r)
 act_of (reduces {r = r} taken rest act rule parts len goto at) = (r, act)
 
 pub compared : {t : Tables} {base : ℕ} {s first second : List Entry} {u v w : List TextToken} → Reaches t base s u first v → Reaches t base s u second w → Reaches t base first v second w ⊎ Reaches t base second w first v

@@ -69,7 +69,7 @@ next_back_law g range xs x a next = next_back g range (valid_chain g range next.
 abbrev Acts : Grammar → List Sym → ℕ → Type 0
 Acts g xs a = (i : Item) × (deed : Deed) × IsValid g xs i × Does g i a deed
 
-augmented_ahead : (g : Grammar) → IsInRange g → {xs : List Sym} {i : Item} → IsValid g xs i → i.rule ≡ length g.rules → i.ahead ≡ end_mark g
+pub augmented_ahead : (g : Grammar) → IsInRange g → {xs : List Sym} {i : Item} → IsValid g xs i → i.rule ≡ length g.rules → i.ahead ≡ end_mark g
 augmented_ahead g range {xs} {i} v last =
     ⊎_elim (λ at. ap (λ (k : Item). k.ahead) at.1) (λ at. ap (λ (k : Item). k.ahead) at.1) ((augmented_items_law g range xs i last).0 v)
 
