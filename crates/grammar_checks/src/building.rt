@@ -74,14 +74,8 @@ pub fn build_grammar(alloc: Global, grammar: &Grammar) -> Result<Built, GrammarF
     ensures built { IfOk result (λ built. IsBuilt grammar.now built) }
     ensures fault { IfErr result (λ fault. IsFaultOf grammar.now fault) }
 {
-    let firsts = match firsts_of(alloc, grammar) {
-        Ok(firsts) => firsts,
-        Err(fault) => return Err(fault),
-    };
-    let collection = match collection_of(alloc, grammar, &firsts) {
-        Ok(collection) => collection,
-        Err(fault) => return Err(fault),
-    };
+    let firsts = firsts_of(alloc, grammar)?;
+    let collection = collection_of(alloc, grammar, &firsts)?;
     match build(alloc, grammar, &collection) {
         Ok(tables) => Ok(Built { collection, tables }),
         Err(BuildFault::Conflict(conflict)) => Err(GrammarFault::Conflict(conflict)),

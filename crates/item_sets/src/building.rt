@@ -6,6 +6,7 @@ ghost use Rattle.item_theory.specs.Collections.{HasMoreStates};
 ghost use Rattle.item_sets.specs.Closing.{IsSetting};
 ghost use Rattle.item_sets.specs.Searching.{FindsStates, IsFirstEntry, IsSearchAt, IsSearchBefore, IsStateSet};
 ghost use Rattle.collection_data.specs.Collection.{IsCollectionOf};
+ghost use Rattle.table_data.specs.declared.limits.TheConstants.{MOST_STATES};
 
 use crate::collection::Collection;
 use crate::fault::CollectFault;
@@ -65,26 +66,24 @@ fn expand(
     state: usize,
 ) -> Result<(), CollectFault>
     requires setting { IsSetting grammar.now table.now.rows.items table.now.fronts.items }
-    requires few { length states.old.sets.items ≤ 10000 }
+    requires few { length states.old.sets.items ≤ MOST_STATES }
     requires sets { All (IsStateSet grammar.now) states.old.sets.items }
     requires finds { FindsStates states.old.found states.old.sets.items }
     requires state { state < length states.old.sets.items }
     requires search { IsSearchAt grammar.now states.old.sets.items steps.old.items state 0 }
     ensures search { IfOk result (λ _. IsSearchBefore grammar.now states.new.sets.items steps.new.items (state + 1)) }
     ensures within { IfOk result (λ _. state < length states.new.sets.items) }
-    ensures few { IfOk result (λ _. length states.new.sets.items ≤ 10000) }
+    ensures few { IfOk result (λ _. length states.new.sets.items ≤ MOST_STATES) }
     ensures sets { IfOk result (λ _. All (IsStateSet grammar.now) states.new.sets.items) }
     ensures finds { IfOk result (λ _. FindsStates states.new.found states.new.sets.items) }
-    ensures many { IfErr result (λ fault. fault ≡ CollectFault.TooManyStates → HasMoreStates grammar.now 10000) }
+    ensures many { IfErr result (λ fault. fault ≡ CollectFault.TooManyStates → HasMoreStates grammar.now MOST_STATES) }
 {
     let width = grammar.tokens() + grammar.names();
     let set = &states.sets[state];
     let kernels = successors(alloc, table, width, &set.entries)?;
     for kernel in &kernels {
-        match step_to(alloc, grammar, table, states, &kernel.entries) {
-            Ok(step) => steps.push(StateCell::of(step))?,
-            Err(fault) => return Err(fault),
-        }
+        let step = step_to(alloc, grammar, table, states, &kernel.entries)?;
+        steps.push(StateCell::of(step))?;
     }
     Ok(())
 }
@@ -99,8 +98,8 @@ pub fn collect(
     requires productive { AllProductive grammar.now }
     requires facts { AreFirsts grammar.now firsts.now }
     ensures collection { IfOk result (λ collection. IsCollectionOf grammar.now collection) }
-    ensures few { IfOk result (λ _. ¬ (HasMoreStates grammar.now 10000)) }
-    ensures many { IfErr result (λ fault. fault ≡ CollectFault.TooManyStates → HasMoreStates grammar.now 10000) }
+    ensures few { IfOk result (λ _. ¬ (HasMoreStates grammar.now MOST_STATES)) }
+    ensures many { IfErr result (λ fault. fault ≡ CollectFault.TooManyStates → HasMoreStates grammar.now MOST_STATES) }
 {
     let table = Table::new(alloc, grammar, firsts)?;
     let mut states = first_state(alloc, grammar, &table)?;
@@ -110,10 +109,8 @@ pub fn collect(
     let mut steps = Vec::with_capacity(alloc, FIRST_ROWS * width)?;
     let mut state = 0;
     while state < states.sets.len() {
-        match expand(alloc, grammar, &table, &mut states, &mut steps, state) {
-            Ok(()) => state += 1,
-            Err(fault) => return Err(fault),
-        }
+        expand(alloc, grammar, &table, &mut states, &mut steps, state)?;
+        state += 1;
     }
     let States { sets, found: _ } = states;
     Ok(Collection::from_parts(tokens, names, sets, steps))

@@ -1,5 +1,6 @@
 ghost use Rattle.std.specs.Prelude.{◌≡◌, ◌<◌, ◌≤◌, ◌+◌, ◌*◌, IfSome, length};
 ghost use Rattle.collection_data.specs.Collection.{column_of, items_in, state_count, step_in};
+ghost use Rattle.table_data.specs.declared.limits.TheConstants.{MOST_STATES};
 
 use crate::item_set::ItemSet;
 use collection_data::Entry;
@@ -20,12 +21,13 @@ pub struct Collection {
 impl Model for Collection {
     ghost use Rattle.std.specs.Prelude.{◌≡◌, ◌<◌, ◌≤◌, ◌+◌, ◌*◌, length};
     ghost use Rattle.collection_data.specs.Collection.{CollectionParts};
+    ghost use Rattle.table_data.specs.declared.limits.TheConstants.{MOST_STATES};
 
     ghost Value = { CollectionParts };
 
     ghost view = { λ s. record { tokens = s.tokens; names = s.names; states = s.states.items; steps = s.steps.items } };
 
-    ghost invariant = { λ s. (s.tokens + s.names < 1000) × (length s.states.items ≤ 10000)
+    ghost invariant = { λ s. (s.tokens + s.names < 1000) × (length s.states.items ≤ MOST_STATES)
         × (length s.steps.items ≡ length s.states.items * (s.tokens + s.names)) };
 }
 
@@ -51,7 +53,7 @@ impl Collection {
         steps: Vec<StateCell>,
     ) -> Collection
         requires few_symbols { tokens + names < 1000 }
-        requires few_states { length states.items ≤ 10000 }
+        requires few_states { length states.items ≤ MOST_STATES }
         requires rows { length steps.items ≡ length states.items * (tokens + names) }
         ensures { result ≡ record { tokens = tokens; names = names; states = states.items; steps = steps.items } }
     {
@@ -66,7 +68,7 @@ impl Collection {
     /// How many states there are; they are numbered from 0.
     pub fn states(&self) -> u32
         ensures states { result ≡ state_count self.now }
-        ensures few { result ≤ 10000 }
+        ensures few { result ≤ MOST_STATES }
     {
         self.states.len() as u32
     }

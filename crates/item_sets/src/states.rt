@@ -4,6 +4,7 @@ ghost use Rattle.item_sets.specs.Closing.{IsSetting};
 ghost use Rattle.item_sets.specs.Layout.{IsKernel};
 ghost use Rattle.item_sets.specs.Successors.{key_of};
 ghost use Rattle.item_sets.specs.Searching.{FindsStates, IsFoundOrAdded, IsNewKernel, IsStateSet, IsStepFound};
+ghost use Rattle.table_data.specs.declared.limits.TheConstants.{MOST_STATES};
 
 use crate::fault::CollectFault;
 use crate::found::{find, key, note};
@@ -14,9 +15,10 @@ use collection_data::Entry;
 use lr_base::{Grammar, StateId};
 use std::alloc::Global;
 use std::collections::HashMap;
+use table_data::MOST_STATES;
 
 /// The most states that a collection may have.
-const STATES: usize = 10_000;
+const STATES: usize = MOST_STATES as usize;
 
 /// The states found so far, in their order, and by the keys of their kernels.
 #[derive(Drop)]
@@ -38,15 +40,15 @@ fn add(
     requires kernel { IsKernel grammar.now kernel.now }
     requires moved { All (λ (e : Lookaheads). 0 < e.dot) kernel.now }
     requires key { key.items ≡ key_of kernel.now }
-    requires few { length states.old.sets.items ≤ 10000 }
+    requires few { length states.old.sets.items ≤ MOST_STATES }
     requires sets { All (IsStateSet grammar.now) states.old.sets.items }
     requires finds { FindsStates states.old.found states.old.sets.items }
     requires fresh { IsNewKernel states.old.sets.items kernel.now }
     ensures added { IfOk result (λ q. IsFoundOrAdded grammar.now kernel.now states.old.sets.items states.new.sets.items q) }
-    ensures few { IfOk result (λ _. length states.new.sets.items ≤ 10000) }
+    ensures few { IfOk result (λ _. length states.new.sets.items ≤ MOST_STATES) }
     ensures sets { IfOk result (λ _. All (IsStateSet grammar.now) states.new.sets.items) }
     ensures finds { IfOk result (λ _. FindsStates states.new.found states.new.sets.items) }
-    ensures many { IfErr result (λ fault. fault ≡ CollectFault.TooManyStates → 10000 ≤ length states.old.sets.items) }
+    ensures many { IfErr result (λ fault. fault ≡ CollectFault.TooManyStates → MOST_STATES ≤ length states.old.sets.items) }
 {
     let count = states.sets.len();
     if count >= STATES {
@@ -69,14 +71,14 @@ fn find_or_add(
     requires setting { IsSetting grammar.now table.now.rows.items table.now.fronts.items }
     requires kernel { IsKernel grammar.now kernel.now }
     requires moved { All (λ (e : Lookaheads). 0 < e.dot) kernel.now }
-    requires few { length states.old.sets.items ≤ 10000 }
+    requires few { length states.old.sets.items ≤ MOST_STATES }
     requires sets { All (IsStateSet grammar.now) states.old.sets.items }
     requires finds { FindsStates states.old.found states.old.sets.items }
     ensures added { IfOk result (λ q. IsFoundOrAdded grammar.now kernel.now states.old.sets.items states.new.sets.items q) }
-    ensures few { IfOk result (λ _. length states.new.sets.items ≤ 10000) }
+    ensures few { IfOk result (λ _. length states.new.sets.items ≤ MOST_STATES) }
     ensures sets { IfOk result (λ _. All (IsStateSet grammar.now) states.new.sets.items) }
     ensures finds { IfOk result (λ _. FindsStates states.new.found states.new.sets.items) }
-    ensures many { IfErr result (λ fault. fault ≡ CollectFault.TooManyStates → (10000 ≤ length states.old.sets.items) × IsNewKernel states.old.sets.items kernel.now) }
+    ensures many { IfErr result (λ fault. fault ≡ CollectFault.TooManyStates → (MOST_STATES ≤ length states.old.sets.items) × IsNewKernel states.old.sets.items kernel.now) }
 {
     let key = key(alloc, kernel)?;
     match find(&states.found, &key) {
@@ -96,21 +98,19 @@ pub fn step_to(
     requires setting { IsSetting grammar.now table.now.rows.items table.now.fronts.items }
     requires kernel { IsKernel grammar.now kernel.now }
     requires moved { All (λ (e : Lookaheads). 0 < e.dot) kernel.now }
-    requires few { length states.old.sets.items ≤ 10000 }
+    requires few { length states.old.sets.items ≤ MOST_STATES }
     requires sets { All (IsStateSet grammar.now) states.old.sets.items }
     requires finds { FindsStates states.old.found states.old.sets.items }
     ensures step { IfOk result (λ o. IsStepFound grammar.now kernel.now states.old.sets.items states.new.sets.items o) }
-    ensures few { IfOk result (λ _. length states.new.sets.items ≤ 10000) }
+    ensures few { IfOk result (λ _. length states.new.sets.items ≤ MOST_STATES) }
     ensures sets { IfOk result (λ _. All (IsStateSet grammar.now) states.new.sets.items) }
     ensures finds { IfOk result (λ _. FindsStates states.new.found states.new.sets.items) }
     ensures many { IfErr result (λ fault. fault ≡ CollectFault.TooManyStates
-        → (kernel.now ≢ []) × (10000 ≤ length states.old.sets.items) × IsNewKernel states.old.sets.items kernel.now) }
+        → (kernel.now ≢ []) × (MOST_STATES ≤ length states.old.sets.items) × IsNewKernel states.old.sets.items kernel.now) }
 {
     if kernel.is_empty() {
         return Ok(None);
     }
-    match find_or_add(alloc, grammar, table, states, kernel) {
-        Ok(state) => Ok(Some(state)),
-        Err(fault) => Err(fault),
-    }
+    let state = find_or_add(alloc, grammar, table, states, kernel)?;
+    Ok(Some(state))
 }

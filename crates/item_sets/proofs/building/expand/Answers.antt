@@ -1,4 +1,5 @@
 use Rattle.std.proofs.Common.{◌≡◌, ◌++◌, ◌∷◌, ◌≢◌, ℕ, ◌+◌, ◌<◌, List, [], length, get_or, slice_get, Option, Some, refl, sym, ap, subst, ◌∙◌, arith}
+use Rattle.std.proofs.lemmas.Result.{err_from_is_err_and}
 use Rattle.std.proofs.lemmas.Option.{slice_get_read, slice_get_within}
 use Rattle.collection_data.specs.declared.entry.Entry.{Entry}
 use Rattle.item_sets.specs.Successors.{moved_entries}
@@ -47,10 +48,12 @@ step_to-requires-clause-moved c =
     dots_here g rows fronts c.requires.setting set (set_at_state g states c.requires.sets p set at).are k less kernel moved
 
 pub of-requires : goal.of-requires
-of-requires c = step_below c.args.grammar.now c.deref-in-loop-kernel.result.now c.loop-kernel.states.sets.items c.step_to.new.states.sets.items c.in-Ok.step c.in-Ok.ensures.step c.in-Ok.ensures.few
+of-requires c = step_below c.args.grammar.now c.deref-in-loop-kernel.result.now c.loop-kernel.states.sets.items c.step_to.new.states.sets.items c.in_ok-step.step c.in_ok-step.ensures.step c.in_ok-step.ensures.few
 
-pub returns-in-Err-clause-many : goal.returns-in-Err-clause-many
-returns-in-Err-clause-many c = λ same.
+pub returns-in_err-step-clause-many : goal.returns-in_err-step-clause-many
+returns-in_err-step-clause-many c =
+    let found = err_from_is_err_and c.from_residual-in_err-step.result c.from_residual-in_err-step.ensures.1 in
+    rw (found.1, found.2) (λ same.
     let g = c.args.grammar.now in
     let rows = c.args.table.now.rows.items in
     let fronts = c.args.table.now.fronts.items in
@@ -68,9 +71,9 @@ returns-in-Err-clause-many c = λ same.
     let moved : kernel ≡ moved_entries rows k set = kernel_at rows _ set kernels c.in_ok-kernels.ensures k inside kernel is in
     let now = c.loop-kernel.states.sets.items in
     let at_now : slice_get now p ≡ Some set = c.loop-kernel.invariant.here ∙ at in
-    let h = c.in-Err.ensures.many same in
+    let h = c.in_err-step.ensures.many same in
     more_states g rows fronts c.requires.setting now c.loop-kernel.invariant.sets c.loop-kernel.steps.items p k less c.loop-kernel.invariant.search set at_now 10000 h.1
-    (subst (λ (l : List Entry). l ≢ []) moved h.0) (subst (λ (l : List Entry). IsNewKernel now l) moved h.2)
+    (subst (λ (l : List Entry). l ≢ []) moved h.0) (subst (λ (l : List Entry). IsNewKernel now l) moved h.2))
 
 pub loop-kernel-preserved : goal.loop-kernel-preserved
 loop-kernel-preserved c =
@@ -92,15 +95,15 @@ loop-kernel-preserved c =
     let now = c.loop-kernel.states.sets.items in
     let at_now : slice_get now p ≡ Some set = c.loop-kernel.invariant.here ∙ at in
     let new = c.step_to.new.states.sets.items in
-    let step = c.in-Ok.ensures.step in
+    let step = c.in_ok-step.ensures.step in
     record {
-      few = c.in-Ok.ensures.few;
-      sets = c.in-Ok.ensures.sets;
-      finds = c.in-Ok.ensures.finds;
-      here = step_keeps g kernel now new c.in-Ok.step step p set at_now ∙ sym at;
-      search = subst (λ (l : List (Option ℕ)). IsSearchAt g new l p (k + 1)) (sym (c.in_ok-push-in-Ok.ensures.items ∙ ap (λ (o : Option ℕ). c.loop-kernel.steps.items ++ o ∷ []) c.of.ensures))
-          (search_step g rows fronts c.requires.setting now c.loop-kernel.invariant.sets c.loop-kernel.steps.items p k less c.loop-kernel.invariant.search set at_now new c.in-Ok.step
-          (subst (λ (l : List Entry). IsStepFound g l now new c.in-Ok.step) moved step));
+      few = c.in_ok-step.ensures.few;
+      sets = c.in_ok-step.ensures.sets;
+      finds = c.in_ok-step.ensures.finds;
+      here = step_keeps g kernel now new c.in_ok-step.step step p set at_now ∙ sym at;
+      search = subst (λ (l : List (Option ℕ)). IsSearchAt g new l p (k + 1)) (sym (c.in_ok-push.ensures.items ∙ ap (λ (o : Option ℕ). c.loop-kernel.steps.items ++ o ∷ []) c.of.ensures))
+          (search_step g rows fronts c.requires.setting now c.loop-kernel.invariant.sets c.loop-kernel.steps.items p k less c.loop-kernel.invariant.search set at_now new c.in_ok-step.step
+          (subst (λ (l : List Entry). IsStepFound g l now new c.in_ok-step.step) moved step));
     }
 
 pub returns-clause-search : goal.returns-clause-search
