@@ -1,7 +1,6 @@
-pub mod FaultLemmas
-pub mod AnswerLemmas
-pub mod BlockLemmas
-pub mod CallLemmas
-pub mod InputLemmas
 pub mod WordLemmas
-pub mod TableListLemmas
+pub mod InputLemmas
+pub mod OutcomeLemmas
+pub mod LawLemmas
+pub mod OutputLemmas
+pub mod EndLemmas

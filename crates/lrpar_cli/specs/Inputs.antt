@@ -1,64 +1,100 @@
--- What was read for a command.
-use Rattle.std.specs.Prelude.{◌≡◌, ℕ, ◌<◌, ◌≤◌, List, length, Option, IfSome}
+-- What was read for a command, and why a reading stopped.
+use Rattle.std.specs.Prelude.{◌≡◌, ◌≢◌, ℕ, ◌<◌, ◌≤◌, List, [], ◌∷◌, ◌++◌, false, length}
+use Rattle.lr_base.specs.Outside.{ShelfSeen, Rose, is_listed}
+use Rattle.lr_base.specs.Reading.{StandsUnder}
 use Rattle.scanning_theory.specs.Scan.{token_count}
-use Rattle.sheet_data.specs.Sheet.{Sheet as SheetParts}
+use Rattle.sheet_data.specs.Sheet.{Sheet}
 use Rattle.sheet_theory.specs.ScanOrder.{scanning_of}
 use Rattle.scanning_theory.specs.declared.limits.TheConstants.{PATTERNS}
 use Rattle.token_patterns.specs.Scanner.{IsScannerOf, ranks_of}
-use Rattle.lrpar_cli.specs.declared.inputs.Accepted.{Accepted}
-use Rattle.lrpar_cli.specs.declared.inputs.Stop.{Stop}
-use Rattle.lrpar_cli.specs.declared.inputs.Stop.TheVariants.{Sheet, TextTooLong, ReadFault, NoMemory}
-use Rattle.lrpar_cli.specs.Answer.{HasTooManyStates, states_fault, Refuses, HasNoTables, text_limit}
-use Rattle.report_theory.specs.FaultTexts.{fault_text}
+use Rattle.answer_theory.specs.declared.status.Status.TheVariants.{SheetRefused}
+use Rattle.grammar_faults.specs.declared.fault.GrammarFault.{GrammarFault}
+use Rattle.grammar_faults.specs.declared.fault.GrammarFault.TheVariants.{NoMemory}
+use Rattle.grammar_faults.specs.Building.{IsFaultOf}
+use Rattle.report_theory.specs.FaultTexts.{fault_text, grammar_text}
+use Rattle.answer_theory.specs.Sheets.{HasTooManyStates, states_fault, IsAccepted, IsRefused}
+use Rattle.answer_theory.specs.Tasks.{Looking, Input}
+use Rattle.lrpar_cli.specs.declared.inputs.Scanned.{Scanned}
+use Rattle.lrpar_cli.specs.declared.stop.Stop.{Stop}
+use Rattle.lrpar_cli.specs.declared.stop.Stop.TheVariants.{Due, Unread, Unwritten, Spent}
 
--- these bytes were read, where it is told what stands there
-abbrev pub IsRead : Option (List ℕ) → List ℕ → Type 0
-IsRead stood bytes = IfSome stood (λ told. bytes ≡ told)
+-- the name was begun, and no other; where its reading failed it isn't served and the count rose, and else the count
+-- stands where it stood
+pub record ReadsName (before after : ShelfSeen) (name : List ℕ) (failed : Type 0) : Type 0 where
+  pub begun : after.begun ≡ before.begun ++ name ∷ []
+  pub kept : ¬ failed → after.faults ≡ before.faults
+  pub rose : failed → Rose before.faults after.faults
+  pub unserved : failed → is_listed before.served name ≡ false
+
+-- the sheet under the name is accepted
+pub record HasSheet (looking : Looking) (shelf : ShelfSeen) (name : List ℕ) (sheet : Sheet) : Type 0 where
+  pub bytes : List ℕ
+  pub stand : StandsUnder shelf name bytes
+  pub accepted : IsAccepted looking bytes sheet
+
+-- the bytes under the name are refused as a sheet, and this is said of them
+pub record HasRefusal (looking : Looking) (shelf : ShelfSeen) (name said : List ℕ) : Type 0 where
+  pub bytes : List ℕ
+  pub stand : StandsUnder shelf name bytes
+  pub refused : IsRefused looking bytes said
+
+-- why there is no accepted sheet
+abbrev pub IsSheetStop : Looking → ShelfSeen → List ℕ → Stop → Type 0
+IsSheetStop looking shelf name (Due status said) = (status ≡ SheetRefused) × HasRefusal looking shelf name said
+IsSheetStop looking shelf name Unread = Unit {0}
+IsSheetStop looking shelf name Unwritten = ⊥
+IsSheetStop looking shelf name Spent = Unit {0}
+
+-- the bytes under the name are as many as the input may have
+pub record HasInput (input : Input) (shelf : ShelfSeen) (name bytes : List ℕ) : Type 0 where
+  pub stand : StandsUnder shelf name bytes
+  pub within : length bytes ≤ input.most
+
+-- the bytes under the name are more than the input may have
+pub record HasLongInput (input : Input) (shelf : ShelfSeen) (name : List ℕ) : Type 0 where
+  pub bytes : List ℕ
+  pub stand : StandsUnder shelf name bytes
+  pub long : input.most < length bytes
+
+-- why there is no such input
+abbrev pub IsInputStop : Input → ShelfSeen → List ℕ → Stop → Type 0
+IsInputStop input shelf name (Due status said) = (status ≡ input.status) × (said ≡ input.said) × HasLongInput input shelf name
+IsInputStop input shelf name Unread = Unit {0}
+IsInputStop input shelf name Unwritten = ⊥
+IsInputStop input shelf name Spent = Unit {0}
 
 -- the scanner is that of the sheet's patterns, and each rank means what the sheet says
-pub record IsReady (accepted : Accepted) : Type 0 where
-  pub scanner : IsScannerOf accepted.scanner (scanning_of accepted.sheet).patterns
-  pub means : accepted.means.items ≡ (scanning_of accepted.sheet).means
-  pub ranks : ranks_of accepted.scanner ≡ length accepted.means.items
-  pub few : length accepted.means.items ≤ PATTERNS
-  pub tokens : token_count accepted.means.items ≡ accepted.sheet.grammar.tokens
+pub record IsReady (scanned : Scanned) : Type 0 where
+  pub scanner : IsScannerOf scanned.scanner (scanning_of scanned.sheet).patterns
+  pub means : scanned.means.items ≡ (scanning_of scanned.sheet).means
+  pub ranks : ranks_of scanned.scanner ≡ length scanned.means.items
+  pub few : length scanned.means.items ≤ PATTERNS
+  pub tokens : token_count scanned.means.items ≡ scanned.sheet.grammar.tokens
 
--- bytes were read that are refused, and this is said of them
-pub record IsRefusedSheet (stood : Option (List ℕ)) (said : List ℕ) : Type 0 where
-  pub bytes : List ℕ
-  pub read : IsRead stood bytes
-  pub refused : Refuses bytes said
+-- why bytes give no sheet with a scanner
+abbrev pub IsScanStop : List ℕ → Stop → Type 0
+IsScanStop bytes (Due status said) = (status ≡ SheetRefused) × ((looking : Looking) → IsRefused looking bytes said)
+IsScanStop bytes Unread = ⊥
+IsScanStop bytes Unwritten = ⊥
+IsScanStop bytes Spent = Unit {0}
 
--- what is said of a fault, unless memory runs out
-abbrev pub IsRefusal : List ℕ → Stop → Type 0
-IsRefusal due (Sheet said) = said ≡ due
-IsRefusal due TextTooLong = ⊥
-IsRefusal due ReadFault = ⊥
-IsRefusal due NoMemory = Unit {0}
+-- why a sheet gives no scanner
+abbrev pub IsStatesStop : Sheet → Stop → Type 0
+IsStatesStop sheet (Due status said) = (status ≡ SheetRefused) × HasTooManyStates sheet × (said ≡ fault_text states_fault)
+IsStatesStop sheet Unread = ⊥
+IsStatesStop sheet Unwritten = ⊥
+IsStatesStop sheet Spent = Unit {0}
 
--- the refusal of a sheet whose patterns have too many states, or want of memory
-abbrev pub IsStatesStop : SheetParts → Stop → Type 0
-IsStatesStop sheet (Sheet said) = HasTooManyStates sheet × (said ≡ fault_text states_fault)
-IsStatesStop sheet TextTooLong = ⊥
-IsStatesStop sheet ReadFault = ⊥
-IsStatesStop sheet NoMemory = Unit {0}
+-- the sheet's grammar has no tables, and this is said of its first fault
+pub record HasNoTables (sheet : Sheet) (said : List ℕ) : Type 0 where
+  pub fault : GrammarFault
+  pub of : IsFaultOf sheet.grammar fault
+  pub found : fault ≢ NoMemory
+  pub is : said ≡ grammar_text sheet fault
 
--- the refusal of bytes, or want of memory
-abbrev pub IsRefusedBy : List ℕ → Stop → Type 0
-IsRefusedBy bytes (Sheet said) = Refuses bytes said
-IsRefusedBy bytes TextTooLong = ⊥
-IsRefusedBy bytes ReadFault = ⊥
-IsRefusedBy bytes NoMemory = Unit {0}
-
--- the refusal of a sheet whose grammar has no tables, or want of memory
-abbrev pub IsGrammarStop : SheetParts → Stop → Type 0
-IsGrammarStop sheet (Sheet said) = HasNoTables sheet said
-IsGrammarStop sheet TextTooLong = ⊥
-IsGrammarStop sheet ReadFault = ⊥
-IsGrammarStop sheet NoMemory = Unit {0}
-
--- the text has more bytes than a text may have
-pub record IsLongText (stood : Option (List ℕ)) : Type 0 where
-  pub text : List ℕ
-  pub read : IsRead stood text
-  pub long : text_limit < length text
+-- why a sheet's grammar gives no tables
+abbrev pub IsGrammarStop : Sheet → Stop → Type 0
+IsGrammarStop sheet (Due status said) = (status ≡ SheetRefused) × HasNoTables sheet said
+IsGrammarStop sheet Unread = ⊥
+IsGrammarStop sheet Unwritten = ⊥
+IsGrammarStop sheet Spent = Unit {0}

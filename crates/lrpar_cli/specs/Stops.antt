@@ -1,15 +1,49 @@
--- What is said where a command does not come to its output.
-use Rattle.std.specs.Prelude.{◌≡◌, ℕ, List, Option}
-use Rattle.lrpar_cli.specs.declared.inputs.Stop.{Stop}
-use Rattle.lrpar_cli.specs.declared.inputs.Stop.TheVariants.{Sheet as sheet_stop, TextTooLong as long_stop, ReadFault as read_stop, NoMemory as memory_stop}
-use Rattle.lrpar_cli.specs.declared.status.Status.{Status}
-use Rattle.lrpar_cli.specs.declared.status.Status.TheVariants.{Sheet, TextTooLong, ReadFault, NoMemory}
-use Rattle.lrpar_cli.specs.Answer.{long_text_text, read_fault_text}
-use Rattle.lrpar_cli.specs.Endings.{IsSpoken}
+-- What is said where a command does not come to its end, and with which status.
+use Rattle.std.specs.Prelude.{◌≡◌, ℕ, List, [], Result, Ok, Err, ◌⊎◌}
+use Rattle.lr_base.specs.declared.reading.ReadFault.{ReadFault as Reading}
+use Rattle.lr_base.specs.declared.reading.ReadFault.TheVariants.{Failed as reading_failed, NoMemory as reading_spent}
+use Rattle.program_texts.specs.declared.blocks.WriteFault.{WriteFault as Writing}
+use Rattle.program_texts.specs.declared.blocks.WriteFault.TheVariants.{Failed as writing_failed, NoMemory as writing_spent}
+use Rattle.answer_theory.specs.declared.status.Status.{Status}
+use Rattle.answer_theory.specs.declared.status.Status.TheVariants.{Done, ReadFault, WriteFault, NoMemory}
+use Rattle.lrpar_cli.specs.declared.stop.Stop.{Stop}
+use Rattle.lrpar_cli.specs.declared.stop.Stop.TheVariants.{Due, Unread, Unwritten, Spent}
+use Rattle.lrpar_cli.specs.Endings.{read_fault_text, write_fault_text}
 
--- each stop has its text and its status; of want of memory nothing is said
-abbrev pub IsStopSaid : Option (List ℕ) → Option (List ℕ) → ℕ → ℕ → ℕ → Stop → Status → Type 0
-IsStopSaid before after room faults_before faults_after (sheet_stop said) status = IsSpoken before after room faults_before faults_after said Sheet status
-IsStopSaid before after room faults_before faults_after long_stop status = IsSpoken before after room faults_before faults_after long_text_text TextTooLong status
-IsStopSaid before after room faults_before faults_after read_stop status = IsSpoken before after room faults_before faults_after read_fault_text ReadFault status
-IsStopSaid before after room faults_before faults_after memory_stop status = status ≡ NoMemory
+-- what is said of an outcome on the error output
+abbrev pub said_of : Result (Unit {0}) Stop → List ℕ
+said_of (Ok done) = []
+said_of (Err (Due status said)) = said
+said_of (Err Unread) = read_fault_text
+said_of (Err Unwritten) = write_fault_text
+said_of (Err Spent) = []
+
+-- the status of an outcome
+abbrev pub status_of : Result (Unit {0}) Stop → Status
+status_of (Ok done) = Done
+status_of (Err (Due status said)) = status
+status_of (Err Unread) = ReadFault
+status_of (Err Unwritten) = WriteFault
+status_of (Err Spent) = NoMemory
+
+-- why a reading stops a command
+abbrev pub reading_stop : Reading → Stop
+reading_stop reading_failed = Unread
+reading_stop reading_spent = Spent
+
+-- why a writing stops a command
+abbrev pub writing_stop : Writing → Stop
+writing_stop writing_failed = Unwritten
+writing_stop writing_spent = Spent
+
+-- this is due, with the status, or memory ran out before it was made
+abbrev pub IsDueStop : Status → List ℕ → Stop → Type 0
+IsDueStop status said stop = (stop ≡ Due status said) ⊎ (stop ≡ Spent)
+
+-- the command stops before it comes to its output
+abbrev pub StopsEarly : Result (Unit {0}) Stop → Type 0
+StopsEarly (Ok done) = ⊥
+StopsEarly (Err (Due status said)) = Unit {0}
+StopsEarly (Err Unread) = Unit {0}
+StopsEarly (Err Unwritten) = ⊥
+StopsEarly (Err Spent) = ⊥

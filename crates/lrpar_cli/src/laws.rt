@@ -1,14 +1,15 @@
-ghost use Rattle.lrpar_cli.specs.Laws.{OneAnswerLaw, BadWordsAnswerLaw, SomeAnswerLaw};
+ghost use Rattle.lrpar_cli.specs.Laws.{CompleteLaw, OneDueLaw, RoomLaw, ServedLaw};
 
-/// The words and the bytes that stand under their names determine the answer: which of these are read, the status, and the
-/// bytes that both outputs take.
-pub fn one_answer_law()
-    ensures { OneAnswerLaw }
+/// Over a shelf that tells its bytes the words determine what is due: which names are read, the status, and the bytes
+/// that both outputs take.
+pub fn one_due_law()
+    ensures { OneDueLaw }
 {}
 
-/// Words of no form have an answer where nothing was read. Of words of a form, with an input for each name that their
-/// command reads, it is refuted that they have none.
-pub fn some_answer_law()
-    ensures bad_words { BadWordsAnswerLaw }
-    ensures of_form { SomeAnswerLaw }
+/// A call in which no count rose is answered or finds no memory; over a shelf that serves the names there is no read
+/// fault, and over sinks with sure room for all that may be due no write fault.
+pub fn complete_law()
+    ensures complete { CompleteLaw }
+    ensures served { ServedLaw }
+    ensures room { RoomLaw }
 {}

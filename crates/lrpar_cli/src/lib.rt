@@ -2,14 +2,14 @@
 #![tactic(auto)]
 
 mod call;
-mod fault_texts;
+mod commands;
 mod inputs;
 mod laws;
-mod status;
-mod table_list;
-mod token_list;
+mod outputs;
+mod saying;
+mod stop;
 mod words;
 
+pub use answer_theory::Status;
 pub use call::lrpar;
-pub use laws::{one_answer_law, some_answer_law};
-pub use status::Status;
+pub use laws::{complete_law, one_due_law};

@@ -1,22 +1,15 @@
-ghost use Rattle.std.specs.Prelude.{◌≡◌, ◌≢◌, length, IfSome, IfNone, MatchOption, map, string_bytes, IsTrue, ◌↔◌};
-ghost use Rattle.lrpar_cli.specs.Words.{HasForm, IsCommand, IsPosition, IsTokensForm, IsPrintForm, word_of, Command as AnyCommand};
+ghost use Rattle.std.specs.Prelude.{◌≡◌, ◌≢◌, ◌↔◌, suc, length, map, string_bytes, All, IsTrue, MatchOption};
+ghost use Rattle.answer_theory.specs.declared.task.Task.{Task};
+ghost use Rattle.answer_theory.specs.Tasks.{inputs_of};
+ghost use Rattle.lrpar_cli.specs.Words.{AreNamesOf, HasForm, IsBadWords, IsPosition, word_of};
 
-/// What is printed of a sheet without faults.
-#[derive(Clone, Copy, Debug, PartialEq, Eq)]
-pub enum Output {
-    /// Its normal layout.
-    Layout,
-    /// The states of its grammar, with their items and what they do.
-    Tables,
-}
+use answer_theory::Task;
 
-/// What the words ask for.
+/// What the words ask for: a task, and the names of what it reads, the sheet's first.
 #[derive(Clone, Copy, Debug)]
-pub enum Command<'a> {
-    /// `tokens SHEET TEXT`: the tokens of a text.
-    Tokens { sheet: &'a str, text: &'a str },
-    /// `check SHEET` and `tables SHEET`: the sheet's first fault, or what is printed of it.
-    Print { output: Output, sheet: &'a str },
+pub struct Command<'a> {
+    pub task: Task,
+    pub names: &'a [String],
 }
 
 /// A position is a word that doesn't begin with `-`.
@@ -26,80 +19,55 @@ fn is_position(word: &str) -> bool
     !word.as_bytes().starts_with(b"-")
 }
 
-/// Whether three words are those of `tokens`.
-fn is_tokens_form(command: &str, sheet: &str, text: &str) -> bool
-    ensures { IsTrue result ↔ IsTokensForm command.now sheet.now text.now }
+fn are_positions(words: &[String]) -> bool
+    ensures { IsTrue result ↔ All (λ word. IsPosition (string_bytes word)) words.now }
 {
-    if !is_position(sheet) {
-        return false;
-    }
-    if !is_position(text) {
-        return false;
-    }
-    command == "tokens"
+    words.iter().all(|word| is_position(word))
 }
 
-/// What the command of this name prints of a sheet, if it prints something of one.
-fn output_of(command: &str) -> Option<Output>
-    ensures { MatchOption result ((output : Output) → command.now ≢ word_of output) (λ output. command.now ≡ word_of output) }
+/// The task that the command's word asks for, if there is one.
+fn task_of(word: &str) -> Option<Task>
+    ensures { MatchOption result ((task : Task) → word.now ≢ word_of task) (λ task. word.now ≡ word_of task) }
 {
-    if command == "check" {
-        return Some(Output::Layout);
+    if word == "tokens" {
+        return Some(Task::Tokens);
     }
-    if command == "tables" {
-        return Some(Output::Tables);
+    if word == "check" {
+        return Some(Task::Check);
+    }
+    if word == "tables" {
+        return Some(Task::Tables);
     }
     None
 }
 
-/// What two words ask to be printed, if they ask for something.
-fn printed_by(command: &str, sheet: &str) -> Option<Output>
-    ensures { MatchOption result ((output : Output) → ¬ (IsPrintForm output command.now sheet.now)) (λ output. IsPrintForm output command.now sheet.now) }
+/// How many names a task reads.
+fn name_count(task: Task) -> usize
+    ensures { result ≡ suc (length (inputs_of task)) }
 {
-    if !is_position(sheet) {
-        return None;
+    match task {
+        Task::Tokens => 2,
+        Task::Check | Task::Tables => 1,
     }
-    output_of(command)
 }
 
-/// The command that the words are of the form of, if there is one.
+/// Whether these can be the names of what a task reads.
+fn are_names_of(task: Task, names: &[String]) -> bool
+    ensures { IsTrue result ↔ AreNamesOf task (map string_bytes names.now) }
+{
+    names.len() == name_count(task) && are_positions(names)
+}
+
+/// What the words ask for, if they are of a form.
 pub fn command_of(words: &[String]) -> Option<Command<'_>>
-    ensures of_form { IfSome result (λ c. (form : AnyCommand) × HasForm (map string_bytes words.now) form × IsCommand c form) }
-    ensures not_of_form { IfNone result ((form : AnyCommand) → ¬ (HasForm (map string_bytes words.now) form)) }
+    ensures { MatchOption result
+        (IsBadWords (map string_bytes words.now))
+        (λ c. HasForm (map string_bytes words.now) c.task (map string_bytes c.names.now)) }
 {
-    if words.len() == 2 {
-        return print_of(words);
-    }
-    tokens_of(words)
-}
-
-/// The command that two words are of the form of, if there is one.
-fn print_of(words: &[String]) -> Option<Command<'_>>
-    requires { length words.now ≡ 2 }
-    ensures of_form { IfSome result (λ c. (form : AnyCommand) × HasForm (map string_bytes words.now) form × IsCommand c form) }
-    ensures not_of_form { IfNone result ((form : AnyCommand) → ¬ (HasForm (map string_bytes words.now) form)) }
-{
-    let [command, sheet] = words else {
+    let (word, names) = words.split_first()?;
+    let task = task_of(word)?;
+    if !are_names_of(task, names) {
         return None;
-    };
-    match printed_by(command, sheet) {
-        Some(output) => Some(Command::Print { output, sheet }),
-        None => None,
     }
-}
-
-/// The command `tokens`, where the words, which aren't two, are of its form.
-fn tokens_of(words: &[String]) -> Option<Command<'_>>
-    requires { length words.now ≢ 2 }
-    ensures of_form { IfSome result (λ c. (form : AnyCommand) × HasForm (map string_bytes words.now) form × IsCommand c form) }
-    ensures not_of_form { IfNone result ((form : AnyCommand) → ¬ (HasForm (map string_bytes words.now) form)) }
-{
-    let [command, sheet, text] = words else {
-        return None;
-    };
-    if is_tokens_form(command, sheet, text) {
-        Some(Command::Tokens { sheet, text })
-    } else {
-        None
-    }
+    Some(Command { task, names })
 }

@@ -164,13 +164,13 @@ static COUNTS: [CountRow; 4] = [
     },
     CountRow {
         words: "tokens x t",
-        status: Status::Sheet,
+        status: Status::SheetRefused,
         out: 0,
         err: 30,
     },
     CountRow {
         words: "tokens",
-        status: Status::Words,
+        status: Status::BadWords,
         out: 0,
         err: 10,
     },

@@ -1,16 +1,24 @@
-use Rattle.std.proofs.KnownBytes.{Appends-nil}
-use Rattle.lrpar_cli.proofs.CallLemmas.{served_ending, room_ending, bad_words_ending}
+use Rattle.std.proofs.Common.{inl, inr}
+use Rattle.lrpar_cli.specs.Endings.{with_bad_words, with_task}
+use Rattle.lrpar_cli.proofs.EndLemmas.{reads_nothing, early_stop, ends_silent}
+use Rattle.lrpar_cli.proofs.LawLemmas.{ends_bad}
+use Rattle.lrpar_cli.proofs.OutputLemmas.{takes_nothing}
 use Rattle.lrpar_cli.proofs.call.lrpar.Goals as goal
 
-pub returns-in-Some-clause-served : goal.returns-in-Some-clause-served
-returns-in-Some-clause-served g c command form all e =
-    let found = c.in-Some.ensures.of_form in
-    served_ending _ _ _ _ _ _ _ command form all (c.run.ensures.ending _ found.0 found.1 found.2) e
+pub returns-in-Some-clause-ends : goal.returns-in-Some-clause-ends
+returns-in-Some-clause-ends g c = with_task c.in-Some.ensures c.run.ensures.comes c.end.ensures.said
 
-pub returns-in-Some-clause-room : goal.returns-in-Some-clause-room
-returns-in-Some-clause-room g c room e =
-    let found = c.in-Some.ensures.of_form in
-    room_ending _ _ _ _ _ _ _ room (c.run.ensures.ending _ found.0 found.1 found.2) e
+pub returns-in-Some-clause-words : goal.returns-in-Some-clause-words
+returns-in-Some-clause-words g c e = ends_bad _ _ _ _ (with_task c.in-Some.ensures c.run.ensures.comes c.end.ensures.said) e
+
+pub returns-in-Some-clause-bad_words : goal.returns-in-Some-clause-bad_words
+returns-in-Some-clause-bad_words g c bad = absurd (bad _ _ c.in-Some.ensures)
+
+pub returns-in-Some-clause-early : goal.returns-in-Some-clause-early
+returns-in-Some-clause-early g c done write memory = c.run.ensures.early (early_stop c.run.result c.end.result c.end.ensures.answer done write memory)
+
+pub returns-in-Some-clause-silent : goal.returns-in-Some-clause-silent
+returns-in-Some-clause-silent g c quiet = c.end.ensures.silent (ends_silent c.run.ensures.comes c.end.ensures.answer quiet)
 
 pub returns-in-None-clause-ends : goal.returns-in-None-clause-ends
-returns-in-None-clause-ends g c = bad_words_ending _ _ _ _ _ _ _ c.in-None.ensures.not_of_form (Appends-nil _) c.say.ensures.spoken
+returns-in-None-clause-ends g c = with_bad_words c.in-None.ensures (reads_nothing _) (takes_nothing _) c.say.ensures.said

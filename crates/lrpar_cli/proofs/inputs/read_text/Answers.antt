@@ -1,5 +1,6 @@
-use Rattle.lrpar_cli.proofs.InputLemmas.{long_text}
+use Rattle.lrpar_cli.proofs.InputLemmas.{long_input}
+use Rattle.answer_theory.specs.Tasks.{text_input}
 use Rattle.lrpar_cli.proofs.inputs.read_text.Goals as goal
 
-pub returns-in-Ok-TooLong-clause-long : goal.returns-in-Ok-TooLong-clause-long
-returns-in-Ok-TooLong-clause-long g c e = long_text _ _ _ (rw c.in-Ok-TooLong.field-0-is at c.in-Ok-TooLong.ensures.text)
+pub returns-in-TooLong-clause-stopped : goal.returns-in-TooLong-clause-stopped
+returns-in-TooLong-clause-stopped g c = long_input text_input _ _ _ c.long_text.result (rw c.in-TooLong.is at c.in_ok-text.ensures.text) c.long_text.ensures

@@ -1,0 +1,182 @@
+-- What comes of the steps of a command.
+use Rattle.std.proofs.Common.{◌≡◌, ◌≢◌, ℕ, zero, suc, ◌≤◌, List, [], ◌∷◌, ◌++◌, length, take, Some, IsSome, IfSome, false, slice_get, Result, Ok, Err, IsErrAnd, refl, sym, ap, subst, ◌∙◌, arith, append_assoc, append-nil, length-append}
+use Rattle.std.proofs.lemmas.Option.{same_Some}
+use Rattle.lr_base.specs.Outside.{ShelfSeen, SinkSeen, IsSameShelf, Takes, Rose, is_listed}
+use Rattle.lr_base.specs.Reading.{StandsUnder}
+use Rattle.program_texts.specs.Writing.{IsWritten, all_taken, part_taken, cut, nothing_taken, front_taken}
+use Rattle.program_texts.specs.declared.blocks.WriteFault.{WriteFault}
+use Rattle.program_texts.specs.declared.blocks.WriteFault.TheVariants.{Failed, NoMemory}
+use Rattle.sheet_data.specs.Sheet.{Sheet}
+use Rattle.answer_theory.specs.declared.status.Status.{Status}
+use Rattle.answer_theory.specs.declared.status.Status.TheVariants.{Done, SheetRefused, TextTooLong}
+use Rattle.answer_theory.specs.declared.task.Task.{Task}
+use Rattle.answer_theory.specs.declared.task.Task.TheVariants.{Tokens}
+use Rattle.answer_theory.specs.Tasks.{looking, for_scanning, inputs_of, text_input}
+use Rattle.answer_theory.specs.Work.{IsListOf, IsWork, tokens_listed}
+use Rattle.answer_theory.specs.Sheets.{IsAccepted}
+use Rattle.answer_theory.specs.Answers.{AreWithin, none_left, one_within, Answers, sheet_refused, input_too_long, work_done, IsPassed, passed_here}
+use Rattle.answer_theory.proofs.SheetLemmas.{not_refused}
+use Rattle.lrpar_cli.specs.declared.stop.Stop.{Stop}
+use Rattle.lrpar_cli.specs.declared.stop.Stop.TheVariants.{Due, Unread, Unwritten, Spent}
+use Rattle.lrpar_cli.specs.Endings.{AreRead, none_read, one_read, HasRead, IsDue, IsPending, IsUnread, before_output, within_output, ComesOut, answered, unread, unwritten, spent}
+use Rattle.lrpar_cli.specs.Inputs.{ReadsName, HasSheet, HasRefusal, IsSheetStop, HasInput, HasLongInput, IsInputStop}
+use Rattle.lrpar_cli.specs.Stops.{StopsEarly, said_of, status_of, writing_stop}
+
+take_next : {A : Type 0} (xs : List A) (k : ℕ) (x : A) → slice_get xs k ≡ Some x → take (suc k) xs ≡ take k xs ++ x ∷ []
+take_next [] k x e = cc
+take_next (y ∷ ys) zero x e = ap (λ z. z ∷ []) (same_Some y x e)
+take_next (y ∷ ys) (suc k) x e = ap (λ l. y ∷ l) (take_next ys k x e)
+
+-- the bytes under the next name were read too
+read_next : (shelf : ShelfSeen) {names inputs : List (List ℕ)} (name bytes : List ℕ) → AreRead shelf names inputs → slice_get names (length inputs) ≡ Some name → StandsUnder shelf name bytes → AreRead shelf names (inputs ++ bytes ∷ [])
+read_next shelf {names = []} name bytes none_read e stand = cc
+read_next shelf {names = y ∷ ys} name bytes none_read e stand = one_read (subst (λ n. StandsUnder shelf n bytes) (sym (same_Some y name e)) stand) none_read
+read_next shelf name bytes (one_read first rest) e stand = one_read first (read_next shelf name bytes rest e stand)
+
+-- what stands under a name stands there later
+pub stands_before : (before after : ShelfSeen) (name bytes : List ℕ) → IsSameShelf before after → StandsUnder after name bytes → StandsUnder before name bytes
+stands_before before after name bytes same stand = record {
+  there = λ tells. subst (λ stands. IsSome (stands name)) same.stands (stand.there (same.tells ∙ tells));
+  is = subst (λ stands. IfSome (stands name) (λ standing. bytes ≡ standing)) same.stands stand.is;
+}
+
+-- where a command stands after some inputs were read: nothing is due yet
+pub record Stage (before now : ShelfSeen) (task : Task) (names inputs : List (List ℕ)) : Type 0 where
+  pub pending : IsPending before task names inputs
+  pub read : HasRead before now (take (length inputs) names)
+  pub same : IsSameShelf before now
+
+module _ (before now after : ShelfSeen) (task : Task) (names inputs : List (List ℕ)) (name : List ℕ) (stage : Stage before now task names inputs) (next : slice_get names (length inputs) ≡ Some name) (failed : Type 0) (reads : ReadsName now after name failed) where
+  begun_next : after.begun ≡ before.begun ++ take (suc (length inputs)) names
+  begun_next =
+      reads.begun ∙ ap (λ l. l ++ name ∷ []) stage.read.begun ∙ append_assoc before.begun (take (length inputs) names) (name ∷ [])
+      ∙ ap (λ l. before.begun ++ l) (sym (take_next names (length inputs) name next))
+
+  read_on : ¬ failed → HasRead before after (take (suc (length inputs)) names)
+  read_on fine = record { begun = begun_next; kept = reads.kept fine ∙ stage.read.kept }
+
+  module _ (out_before out_after : SinkSeen) where
+    abbrev Comes : Result (Unit {0}) Stop → Type 0
+    Comes outcome = ComesOut task names before after out_before out_after (said_of outcome) (status_of outcome)
+
+    -- the name could not be read
+    pub comes_unread : failed → Takes out_before out_after [] → Comes (Err Unread)
+    comes_unread fails takes = unread (record {
+      inputs = inputs;
+      pending = stage.pending;
+      name = name;
+      next = next;
+      unserved = subst (λ served. is_listed served name ≡ false) stage.same.served (reads.unserved fails);
+      begun = begun_next;
+      rose = subst (λ count. Rose count after.faults) stage.read.kept (reads.rose fails);
+    }) takes
+
+    -- memory ran out before anything was due
+    pub comes_spent : ¬ failed → Takes out_before out_after [] → Comes (Err Spent)
+    comes_spent fine takes = spent (before_output {count = suc (length inputs)} stage.pending (omega arith) (read_on fine) takes)
+
+    module _ (bytes : List ℕ) (stand : StandsUnder before name bytes) (fine : ¬ failed) where
+      due_now : {status : Status} {out err : List ℕ} → Answers task (inputs ++ bytes ∷ []) status out err → IsDue before task names (take (suc (length inputs)) names) status out err
+      due_now answers = record {
+        inputs = inputs ++ bytes ∷ [];
+        stand = read_next before name bytes stage.pending.stand next stand;
+        count = ap (λ n. take n names) (let n : suc (length inputs) ≡ length (inputs ++ bytes ∷ []) = omega (arith, length-append inputs (bytes ∷ [])) in n);
+        answers = answers;
+      }
+
+      -- this is due, by what was read
+      pub comes_due : (status : Status) (said : List ℕ) → Answers task (inputs ++ bytes ∷ []) status [] said → Takes out_before out_after [] → Comes (Err (Due status said))
+      comes_due status said answers takes = answered (due_now answers) (read_on fine) takes
+
+      module _ (Is : List ℕ → Type 0) (answers : (text : List ℕ) → Is text → Answers task (inputs ++ bytes ∷ []) Done text []) where
+        -- the output's text is written
+        pub comes_whole : IsWritten Is out_before out_after (Ok tt) → Comes (Ok tt)
+        comes_whole (all_taken {text = text} is takes) = answered (due_now (answers text is)) (read_on fine) takes
+
+        pub comes_stopped : (fault : WriteFault) → IsWritten Is out_before out_after (Err fault) → Comes (Err (writing_stop fault))
+        comes_stopped fault (part_taken {text = text} is fails) = unwritten (due_now (answers text is)) (read_on fine) fails
+        comes_stopped fault (cut (nothing_taken takes)) = spent (before_output {count = suc (length inputs)} stage.pending (omega arith) (read_on fine) takes)
+        comes_stopped fault (cut (front_taken {text = text} rest is e takes)) = spent (within_output rest (due_now (answers text is)) (read_on fine) e takes)
+
+-- nothing is due before the sheet was read
+pub first_stage : (shelf : ShelfSeen) (task : Task) (names : List (List ℕ)) → Stage shelf shelf task names []
+first_stage shelf task names = record {
+  pending = record { stand = none_read; unanswered = λ status out err answers. elim answers [ ] };
+  read = record { begun = sym (append-nil shelf.begun); kept = refl };
+  same = record { tells = refl; stands = refl; served = refl; later = omega arith };
+}
+
+module _ (before after : ShelfSeen) (out_before out_after : SinkSeen) (task : Task) (name : List ℕ) (rest : List (List ℕ)) where
+  -- the command stops at its sheet
+  pub stops_at_sheet : (stop : Stop) (failed : Type 0) → IsSheetStop (looking task) before name stop → ReadsName before after name failed → (stop ≡ Unread → failed) → (failed → stop ≡ Unread) → Takes out_before out_after []
+      → ComesOut task (name ∷ rest) before after out_before out_after (said_of (Err stop)) (status_of (Err stop))
+  stops_at_sheet (Due status said) failed is reads to from takes =
+      let refusal = is.1 in
+      comes_due before before after task (name ∷ rest) [] name (first_stage before task (name ∷ rest)) refl failed reads out_before out_after refusal.bytes refusal.stand (λ fails. let no = from fails in cc) status said
+      (subst (λ s. Answers task (refusal.bytes ∷ []) s [] said) (sym is.0) (sheet_refused refusal.refused)) takes
+  stops_at_sheet Unread failed is reads to from takes = comes_unread before before after task (name ∷ rest) [] name (first_stage before task (name ∷ rest)) refl failed reads out_before out_after (to refl) takes
+  stops_at_sheet Unwritten failed is reads to from takes = absurd is
+  stops_at_sheet Spent failed is reads to from takes = comes_spent before before after task (name ∷ rest) [] name (first_stage before task (name ∷ rest)) refl failed reads out_before out_after (λ fails. let no = from fails in cc) takes
+
+-- nothing is due by an accepted sheet before the text was read
+text_pending : (bytes : List ℕ) (sheet : Sheet) → IsAccepted for_scanning bytes sheet → (status : Status) (out err : List ℕ) → ¬ (Answers Tokens (bytes ∷ []) status out err)
+text_pending bytes sheet accepted status out err (sheet_refused refused) = not_refused bytes for_scanning sheet accepted refused
+text_pending bytes sheet accepted status out err (input_too_long other passed) = elim passed [ ]
+text_pending bytes sheet accepted status out err (work_done other within work) = elim within [ ]
+
+module _ (before now after : ShelfSeen) (out_before out_after : SinkSeen) (name text_name : List ℕ) (sheet : Sheet) (has : HasSheet for_scanning before name sheet) (read_failed : Type 0) (read : ReadsName before now name read_failed) (fine : ¬ read_failed) (same : IsSameShelf before now) where
+  abbrev both : List (List ℕ)
+  both = name ∷ text_name ∷ []
+
+  text_stage : Stage before now Tokens both (has.bytes ∷ [])
+  text_stage = record {
+    pending = record { stand = one_read has.stand none_read; unanswered = text_pending has.bytes sheet has.accepted };
+    read = record { begun = read.begun; kept = read.kept fine };
+    same = same;
+  }
+
+  -- the command stops at its text
+  pub stops_at_text : (stop : Stop) (failed : Type 0) → IsInputStop text_input now text_name stop → ReadsName now after text_name failed → (stop ≡ Unread → failed) → (failed → stop ≡ Unread) → Takes out_before out_after []
+      → ComesOut Tokens both before after out_before out_after (said_of (Err stop)) (status_of (Err stop))
+  stops_at_text (Due status said) failed is reads to from takes =
+      let long = is.2 in
+      let answer : Answers Tokens (has.bytes ∷ long.bytes ∷ []) text_input.status [] text_input.said = input_too_long has.accepted (passed_here long.long) in
+      comes_due before now after Tokens both (has.bytes ∷ []) text_name text_stage refl failed reads out_before out_after long.bytes (stands_before before now text_name long.bytes same long.stand) (λ fails. let no = from fails in cc) status said
+      (subst (λ s. Answers Tokens (has.bytes ∷ long.bytes ∷ []) s [] said) (sym is.0) (subst (λ t. Answers Tokens (has.bytes ∷ long.bytes ∷ []) text_input.status [] t) (sym is.1) answer)) takes
+  stops_at_text Unread failed is reads to from takes = comes_unread before now after Tokens both (has.bytes ∷ []) text_name text_stage refl failed reads out_before out_after (to refl) takes
+  stops_at_text Unwritten failed is reads to from takes = absurd is
+  stops_at_text Spent failed is reads to from takes = comes_spent before now after Tokens both (has.bytes ∷ []) text_name text_stage refl failed reads out_before out_after (λ fails. let no = from fails in cc) takes
+
+  module _ (text : List ℕ) (input : HasInput text_input now text_name text) (failed : Type 0) (reads : ReadsName now after text_name failed) (fine_text : ¬ failed) where
+    listed : (list : List ℕ) → IsListOf sheet text list → Answers Tokens (has.bytes ∷ text ∷ []) Done list []
+    listed list is = work_done has.accepted (one_within input.within none_left) (tokens_listed is)
+
+    pub tokens_whole : IsWritten (IsListOf sheet text) out_before out_after (Ok tt) → ComesOut Tokens both before after out_before out_after [] Done
+    tokens_whole = comes_whole before now after Tokens both (has.bytes ∷ []) text_name text_stage refl failed reads out_before out_after text (stands_before before now text_name text same input.stand) fine_text (IsListOf sheet text) listed
+
+    pub tokens_stopped : (fault : WriteFault) → IsWritten (IsListOf sheet text) out_before out_after (Err fault) → ComesOut Tokens both before after out_before out_after (said_of (Err (writing_stop fault))) (status_of (Err (writing_stop fault)))
+    tokens_stopped = comes_stopped before now after Tokens both (has.bytes ∷ []) text_name text_stage refl failed reads out_before out_after text (stands_before before now text_name text same input.stand) fine_text (IsListOf sheet text) listed
+
+-- what is printed of a sheet whose grammar has tables
+module _ (before after : ShelfSeen) (out_before out_after : SinkSeen) (task : Task) (name : List ℕ) (sheet : Sheet) (has : HasSheet (looking task) before name sheet) (failed : Type 0) (reads : ReadsName before after name failed) (fine : ¬ failed) (Is : List ℕ → Type 0)
+    (alone : inputs_of task ≡ []) (work : (text : List ℕ) → Is text → IsWork sheet task [] Done text []) where
+  printed : (text : List ℕ) → Is text → Answers task (has.bytes ∷ []) Done text []
+  printed text is = work_done has.accepted (subst (λ inputs. AreWithin inputs []) (sym alone) none_left) (work text is)
+
+  pub printed_whole : IsWritten Is out_before out_after (Ok tt) → ComesOut task (name ∷ []) before after out_before out_after [] Done
+  printed_whole = comes_whole before before after task (name ∷ []) [] name (first_stage before task (name ∷ [])) refl failed reads out_before out_after has.bytes has.stand fine Is printed
+
+  pub printed_stopped : (fault : WriteFault) → IsWritten Is out_before out_after (Err fault) → ComesOut task (name ∷ []) before after out_before out_after (said_of (Err (writing_stop fault))) (status_of (Err (writing_stop fault)))
+  printed_stopped = comes_stopped before before after task (name ∷ []) [] name (first_stage before task (name ∷ [])) refl failed reads out_before out_after has.bytes has.stand fine Is printed
+
+-- an outcome with the stop that `?` makes
+pub comes_at : (task : Task) (names : List (List ℕ)) (before after : ShelfSeen) (out_before out_after : SinkSeen) (result : Result (Unit {0}) Stop) (stop : Stop) → IsErrAnd result (λ x. x ≡ stop)
+    → ComesOut task names before after out_before out_after (said_of (Err stop)) (status_of (Err stop)) → ComesOut task names before after out_before out_after (said_of result) (status_of result)
+comes_at task names before after out_before out_after (Ok done) stop same comes = absurd same
+comes_at task names before after out_before out_after (Err x) stop same comes = subst (λ y. ComesOut task names before after out_before out_after (said_of (Err y)) (status_of (Err y))) (sym same) comes
+
+-- a writing that stops a command is no early stop
+pub writing_late : (result : Result (Unit {0}) Stop) (fault : WriteFault) → IsErrAnd result (λ x. x ≡ writing_stop fault) → ¬ (StopsEarly result)
+writing_late (Ok done) fault same early = early
+writing_late (Err x) Failed same early = subst (λ y. StopsEarly (Err y)) same early
+writing_late (Err x) NoMemory same early = subst (λ y. StopsEarly (Err y)) same early

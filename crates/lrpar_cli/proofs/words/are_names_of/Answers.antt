@@ -1,0 +1,1 @@
+use Rattle.lrpar_cli.proofs.words.are_names_of.Goals as goal

@@ -1,0 +1,1 @@
+use Rattle.lrpar_cli.proofs.words.command_of.Goals as goal

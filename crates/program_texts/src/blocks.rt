@@ -1,0 +1,92 @@
+ghost use Rattle.std.specs.Prelude.{◌≡◌, [], OnErr, OnOk};
+ghost use Rattle.lr_base.specs.Outside.{Fails, IsSameSink, Takes};
+ghost use Rattle.program_texts.specs.Writing.{Passes};
+
+use lr_base::{Failed, NoMemory, Sink, write_all};
+use std::alloc::{AllocError, Global};
+use thiserror::Error;
+
+/// How many bytes are gathered before they are written.
+const BLOCK_BYTES: usize = 65_536;
+
+/// Why a text was not written whole.
+#[derive(Clone, Copy, Debug, PartialEq, Eq, Error)]
+pub enum WriteFault {
+    #[error("the text can't be written")]
+    Failed,
+    #[error("no memory")]
+    NoMemory,
+}
+
+impl From<AllocError> for WriteFault {
+    ghost use Rattle.std.specs.Prelude.{◌≡◌};
+    ghost use Rattle.program_texts.specs.declared.blocks.WriteFault.TheVariants.{NoMemory};
+
+    ghost from_gives = { λ _ fault. fault ≡ NoMemory };
+
+    fn from(_error: AllocError) -> WriteFault {
+        WriteFault::NoMemory
+    }
+}
+
+impl From<NoMemory> for WriteFault {
+    ghost use Rattle.std.specs.Prelude.{◌≡◌};
+    ghost use Rattle.program_texts.specs.declared.blocks.WriteFault.TheVariants.{NoMemory};
+
+    ghost from_gives = { λ _ fault. fault ≡ NoMemory };
+
+    fn from(_error: NoMemory) -> WriteFault {
+        WriteFault::NoMemory
+    }
+}
+
+impl From<Failed> for WriteFault {
+    ghost use Rattle.std.specs.Prelude.{◌≡◌};
+    ghost use Rattle.program_texts.specs.declared.blocks.WriteFault.TheVariants.{Failed};
+
+    ghost from_gives = { λ _ fault. fault ≡ Failed };
+
+    fn from(_failed: Failed) -> WriteFault {
+        WriteFault::Failed
+    }
+}
+
+/// A text on its way to a sink: its bytes are gathered, and written in blocks.
+#[derive(Drop)]
+pub struct Blocks {
+    /// What is gathered, and was not written yet.
+    pub gathered: Vec<u8>,
+}
+
+impl Blocks {
+    /// Nothing is gathered.
+    pub fn new(alloc: Global) -> Blocks
+        ensures { result.gathered.items ≡ [] }
+    {
+        Blocks {
+            gathered: Vec::new(alloc),
+        }
+    }
+
+    /// Writes what is gathered, where that is many bytes; where it is few, they stay.
+    pub fn pass<O: Sink>(&mut self, out: &mut O) -> Result<(), Failed>
+        ensures passed { OnOk result (Passes (O.seen out.old) (O.seen out.new) self.old.gathered.items self.new.gathered.items []) }
+        ensures failed { OnErr result (Fails (O.seen out.old) (O.seen out.new) self.old.gathered.items) }
+        ensures same { IsSameSink (O.seen out.old) (O.seen out.new) }
+    {
+        if self.gathered.len() >= BLOCK_BYTES {
+            write_all(out, &self.gathered)?;
+            self.gathered.clear();
+        }
+        Ok(())
+    }
+
+    /// Writes what is gathered, and ends.
+    pub fn finish<O: Sink>(self, out: &mut O) -> Result<(), Failed>
+        ensures whole { OnOk result (Takes (O.seen out.old) (O.seen out.new) self.gathered.items) }
+        ensures failed { OnErr result (Fails (O.seen out.old) (O.seen out.new) self.gathered.items) }
+        ensures same { IsSameSink (O.seen out.old) (O.seen out.new) }
+    {
+        write_all(out, &self.gathered)
+    }
+}
