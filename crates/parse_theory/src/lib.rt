@@ -1,0 +1,24 @@
+//! One left-to-right parse by lawful tables: one tree for a sentence, and the exact first error. Definitions and laws
+//! alone.
+#![tactic(auto)]
+
+ghost use Rattle.parse_theory.specs.Parses.{CompleteLaw, FirstErrorLaw, OneTreeLaw, RejectLaw, SentenceOrWrongLaw, SoundLaw, WholeLaw};
+
+/// A whole run accepts exactly the trees of the start, each by its tokens, and a sentence has one tree.
+pub fn tree_laws()
+    ensures sound { SoundLaw }
+    ensures complete { CompleteLaw }
+    ensures one_tree { OneTreeLaw }
+{}
+
+/// A run errs at the first wrong place, in a state that shows exactly the expected tokens.
+pub fn error_laws()
+    ensures first_error { FirstErrorLaw }
+    ensures reject { RejectLaw }
+{}
+
+/// A whole run ends, so each list of tokens is a sentence or has a first wrong place.
+pub fn whole_run_laws()
+    ensures whole { WholeLaw }
+    ensures sentence_or_wrong { SentenceOrWrongLaw }
+{}
