@@ -159,10 +159,7 @@ fn one_rule_has_three_states(rt: HostRuntime) -> Result<(), Fail> {
 fn a_useless_name_comes_before_a_conflict(rt: HostRuntime) -> Result<(), Fail> {
     let grammar = grammar_of(rt.alloc(), 2, &[b"AA", b"Aa", b"Bb"])?.ok_or("no grammar")?;
     let fault = build_grammar(rt.alloc(), &grammar).err();
-    assert_eq!(rt;
-        fault,
-        Some(GrammarFault::Unreachable(NameId(1)))
-    );
+    assert_eq!(rt; fault, Some(GrammarFault::Unreachable(NameId(1))));
     Ok(())
 }
 

@@ -111,10 +111,7 @@ fn build(alloc: Global, sheet: &Sheet) -> Result<Built, Stop>
     match build_grammar(alloc, sheet.grammar()) {
         Ok(built) => Ok(built),
         Err(GrammarFault::NoMemory) => Err(Stop::Spent),
-        Err(fault) => Err(due(
-            Status::SheetRefused,
-            grammar_text(alloc, sheet, fault),
-        )),
+        Err(fault) => Err(due(Status::SheetRefused, grammar_text(alloc, sheet, fault))),
     }
 }
 

@@ -67,7 +67,11 @@ pub fn write_layout<O: Sink>(alloc: Global, sheet: &Sheet, out: &mut O) -> Resul
 }
 
 /// Writes the states of a sheet's grammar, with their items and what they do.
-pub fn write_states<O: Sink>(alloc: Global, parsing: &Parsing, out: &mut O) -> Result<(), WriteFault>
+pub fn write_states<O: Sink>(
+    alloc: Global,
+    parsing: &Parsing,
+    out: &mut O,
+) -> Result<(), WriteFault>
     requires { IsBuilt parsing.now.sheet.grammar parsing.now.built }
     ensures written { IsWritten (IsTablesText parsing.now.sheet) (O.seen out.old) (O.seen out.new) result }
     ensures same { IsSameSink (O.seen out.old) (O.seen out.new) }

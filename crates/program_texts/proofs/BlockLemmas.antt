@@ -28,8 +28,8 @@ passes_more a b c old gathered new text more all p e q joined = record {
   taken = p.taken ++ q.taken;
   takes = takes_both a b c p.taken q.taken p.takes q.takes;
   joined =
-    sym joined ∙ ap (λ l. l ++ more) p.joined ∙ append_assoc p.taken old more ∙ ap (λ l. p.taken ++ l) (sym e ∙ sym (append-nil gathered) ∙ q.joined)
-    ∙ sym (append_assoc p.taken q.taken new);
+      sym joined ∙ ap (λ l. l ++ more) p.joined ∙ append_assoc p.taken old more ∙ ap (λ l. p.taken ++ l) (sym e ∙ sym (append-nil gathered) ∙ q.joined)
+      ∙ sym (append_assoc p.taken q.taken new);
 }
 
 -- what was taken, and then a part of what comes next

@@ -116,9 +116,24 @@ pub fn grammar_text(alloc: Global, sheet: &Sheet, fault: GrammarFault) -> Result
     ensures { IfOk result (λ text. text.items ≡ text_of_grammar sheet.now fault) }
 {
     match fault {
-        GrammarFault::Unproductive(name) => of_name(alloc, 12, b": unproductive: ", name_of(sheet, name)),
-        GrammarFault::Unreachable(name) => of_name(alloc, 13, b": unreachable: ", name_of(sheet, name)),
-        GrammarFault::EmptyTooLarge(name) => of_name(alloc, 14, b": empty tree too large: ", name_of(sheet, name)),
+        GrammarFault::Unproductive(name) => of_name(
+            alloc,
+            12,
+            b": unproductive: ",
+            name_of(sheet, name),
+        ),
+        GrammarFault::Unreachable(name) => of_name(
+            alloc,
+            13,
+            b": unreachable: ",
+            name_of(sheet, name),
+        ),
+        GrammarFault::EmptyTooLarge(name) => of_name(
+            alloc,
+            14,
+            b": empty tree too large: ",
+            name_of(sheet, name),
+        ),
         GrammarFault::TooManyStates => Ok(Vec::from_slice(alloc, MANY_STATES)?),
         GrammarFault::Conflict(conflict) => conflict_said(alloc, sheet, &conflict),
         GrammarFault::NoMemory => Ok(Vec::new(alloc)),
