@@ -26,14 +26,14 @@ unfolding tables_text
 returns-in_err-pass-clause-written g c =
     let text = state_text c.args.sheet.now c.args.collection.now c.args.tables.now in
     err_at (IsWritten _ _ _) c.from_residual-in_err-pass.result Failed c.from_residual-in_err-pass.ensures.1
-    (part_taken refl (fails_behind _ _ _ _ _ _ _ _ _ c.loop-state.invariant.passed c.in_ok-push_state.ensures c.in_err-pass.ensures.failed
+    (part_taken refl (fails_behind _ _ _ _ _ _ _ _ _ c.loop-state.invariant.passed (rw c.in_ok-printer.ensures at c.in_ok-push_state.ensures) c.in_err-pass.ensures.failed
     (around_state text (states_line c.args.tables.now) c.loop-state.state c.args.tables.now.states (omega arith))))
 
 pub loop-state-preserved : goal.loop-state-preserved
 loop-state-preserved g c =
     let text = state_text c.args.sheet.now c.args.collection.now c.args.tables.now in
     record {
-      passed = passes_more _ _ _ _ _ _ _ _ _ c.loop-state.invariant.passed c.in_ok-push_state.ensures c.in_ok-pass.ensures.passed (one_state text (states_line c.args.tables.now) c.loop-state.state);
+      passed = passes_more _ _ _ _ _ _ _ _ _ c.loop-state.invariant.passed (rw c.in_ok-printer.ensures at c.in_ok-push_state.ensures) c.in_ok-pass.ensures.passed (one_state text (states_line c.args.tables.now) c.loop-state.state);
       same = search rules;
     }
 
