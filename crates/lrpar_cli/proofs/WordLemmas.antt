@@ -1,10 +1,10 @@
 -- The form that words are of: one at most.
-use Rattle.std.proofs.Common.{◌≡◌, ◌≢◌, ℕ, suc, List, [], ◌∷◌, length, get_or, All, refl, sym, ap, subst, ◌∙◌, arith}
+use Rattle.std.proofs.Common.{◌≡◌, ◌≢◌, ℕ, suc, List, [], ◌∷◌, length, get_or, map, All, refl, sym, ap, subst, ◌∙◌, arith}
 use Rattle.std.proofs.lemmas.List.Elements.{All-nil, All-cons, All-head, All-tail, All-map}
 use Rattle.answer_theory.specs.declared.task.Task.{Task}
 use Rattle.answer_theory.specs.declared.task.Task.TheVariants.{Tokens, Check, Tables}
 use Rattle.answer_theory.specs.Tasks.{inputs_of}
-use Rattle.lrpar_cli.specs.Words.{word_of, AreNamesOf, HasForm, IsBadWords}
+use Rattle.lrpar_cli.specs.Words.{word_of, HasForm}
 
 -- the second letter of a word
 abbrev second : List ℕ → ℕ
@@ -28,14 +28,6 @@ form_once words names others task other form other_form =
     let heads : word_of task ≡ word_of other = cc (form.are, other_form.are) in
     let tails : names ≡ others = cc (form.are, other_form.are) in
     (word_once task other heads, tails)
-
--- words that ask for a task, without names that can be its, are of no form
-pub bad_names : (words : List (List ℕ)) (word : List ℕ) (rest : List (List ℕ)) (task : Task) → words ≡ word ∷ rest → word ≡ word_of task → ¬ (AreNamesOf task rest) → IsBadWords words
-bad_names words word rest task are is not other names form =
-    let both = form.are in
-    let heads : word_of task ≡ word_of other = cc in
-    let tails : names ≡ rest = cc in
-    not (subst (λ t. AreNamesOf t rest) (sym (word_once task other heads)) (subst (AreNamesOf other) tails form.names))
 
 -- a fact of all texts, and of all strings
 module _ {X Y : Type 0} (P : X → Type 0) (f : Y → X) where

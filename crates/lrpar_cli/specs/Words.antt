@@ -22,7 +22,7 @@ pub record AreNamesOf (task : Task) (names : List (List ℕ)) : Type 0 where
 -- the words ask for the task: they are its word, and then the names of what it reads
 pub record HasForm (words : List (List ℕ)) (task : Task) (names : List (List ℕ)) : Type 0 where
   pub are : words ≡ word_of task ∷ names
-  pub names : AreNamesOf task names
+  pub fit : AreNamesOf task names
 
 -- the words are of no form
 abbrev pub IsBadWords : List (List ℕ) → Type 0

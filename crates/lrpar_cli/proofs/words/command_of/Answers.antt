@@ -1,1 +1,0 @@
-use Rattle.lrpar_cli.proofs.words.command_of.Goals as goal
