@@ -1,3 +1,4 @@
 pub mod ReadLemmas
+pub mod OnlyLemmas
 pub mod ErrorLemmas
 pub mod WholeLemmas

@@ -2,12 +2,13 @@
 -- at the first wrong place, in a state whose actions other than errors are exactly those on the expected tokens.
 -- Source: Knuth, On the Translation of Languages from Left to Right, 1965; Aho and Ullman, The Theory of Parsing,
 -- Translation, and Compiling, volume 1, section 5.2.
-use Rattle.std.specs.Prelude.{◌≡◌, ◌≢◌, ℕ, ◌↔◌, ◌⊎◌, List, [], ◌∷◌, ◌++◌, All, take}
+use Rattle.std.specs.Prelude.{◌≡◌, ◌≢◌, ℕ, ◌+◌, ◌*◌, ◌<◌, ◌≤◌, ◌↔◌, ◌⊎◌, List, [], ◌∷◌, ◌++◌, All, length, take}
 use Rattle.grammar_data.specs.declared.rule.Sym.TheVariants.{Name}
 use Rattle.grammar_data.specs.declared.token.Token.{Token as TextToken}
 use Rattle.grammar_data.specs.Grammar.{Grammar}
 use Rattle.grammar_theory.specs.Derivations.{IsSentence, GoesOn}
-use Rattle.grammar_theory.specs.Trees.{Tree, IsTree, yield, ids_of}
+use Rattle.grammar_theory.specs.Trees.{Tree, IsTree, yield, nodes, ids_of}
+use Rattle.node_bounds.specs.NodeBounds.{IsOnly, AreBounds}
 use Rattle.next_theory.specs.GoingOn.{token_at, IsWrongAt}
 use Rattle.table_data.specs.declared.act.Act.TheVariants.{Error}
 use Rattle.table_data.specs.Tables.{Tables, act_in}
@@ -25,6 +26,14 @@ CompleteLaw = (g : Grammar) (t : Tables) → IsLawfulFor g t → (end : TextToke
 -- a sentence has one tree
 abbrev pub OneTreeLaw : Type 0
 OneTreeLaw = (g : Grammar) (t : Tables) → IsLawfulFor g t → (tree other : Tree) → IsTree g.rules (Name g.start) tree → IsTree g.rules (Name g.start) other → yield tree ≡ yield other → tree ≡ other
+
+-- each tree of a name is the only one with its yield
+abbrev pub OnlyTreesLaw : Type 0
+OnlyTreesLaw = (g : Grammar) (t : Tables) → IsLawfulFor g t → (n : ℕ) (tree : Tree) → n < g.names → IsTree g.rules (Name n) tree → IsOnly g.rules (Name n) tree
+
+-- so its inner nodes are bounded by the grammar and the number of its tokens
+abbrev pub TreeBoundLaw : Type 0
+TreeBoundLaw = (g : Grammar) (t : Tables) (longest largest : ℕ) → IsLawfulFor g t → AreBounds g longest largest → (n : ℕ) (tree : Tree) → n < g.names → IsTree g.rules (Name n) tree → nodes tree ≤ 2 * g.names * (1 + longest * largest) * (length (yield tree) + 1)
 
 -- the tokens before each place go on with the token there, but all before the last one don't go on with it; they go on
 -- with exactly those tokens on which the state does something

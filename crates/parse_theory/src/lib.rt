@@ -2,13 +2,16 @@
 //! alone.
 #![tactic(auto)]
 
-ghost use Rattle.parse_theory.specs.Parses.{CompleteLaw, FirstErrorLaw, OneTreeLaw, RejectLaw, SentenceOrWrongLaw, SoundLaw, WholeLaw};
+ghost use Rattle.parse_theory.specs.Parses.{CompleteLaw, FirstErrorLaw, OneTreeLaw, OnlyTreesLaw, RejectLaw, SentenceOrWrongLaw, SoundLaw, TreeBoundLaw, WholeLaw};
 
-/// A whole run accepts exactly the trees of the start, each by its tokens, and a sentence has one tree.
+/// A whole run accepts exactly the trees of the start, each by its tokens; a sentence has one tree, each tree of a name is
+/// the only one with its yield, and its inner nodes are bounded.
 pub fn tree_laws()
     ensures sound { SoundLaw }
     ensures complete { CompleteLaw }
     ensures one_tree { OneTreeLaw }
+    ensures only_trees { OnlyTreesLaw }
+    ensures tree_bound { TreeBoundLaw }
 {}
 
 /// A run errs at the first wrong place, in a state that shows exactly the expected tokens.
