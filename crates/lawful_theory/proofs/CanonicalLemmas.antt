@@ -8,6 +8,7 @@ use Rattle.grammar_data.specs.Grammar.{Rule, Grammar}
 use Rattle.grammar_theory.specs.Rules.{IsInRange, NamesBelow}
 use Rattle.grammar_theory.specs.Trees.{Tree, Leaf, IsTree, token_tree}
 use Rattle.grammar_theory.specs.UsefulNames.{AllProductive}
+use Rattle.grammar_theory.specs.UselessNames.{AllReachable}
 use Rattle.grammar_theory.proofs.RuleLemmas.{names_back}
 use Rattle.grammar_theory.proofs.NameLaws.{productive_tree_law}
 use Rattle.item_theory.specs.Items.{Item, IsValid, IsViable, Deed, Does, shifts, reduces, accepts, augmented_item, Reduce as to_reduce, Accept as to_accept}
@@ -26,7 +27,7 @@ use Rattle.table_theory.specs.Canonical.{deed_of, AreCanonical}
 use Rattle.table_theory.proofs.ClashLemmas.{word_of}
 use Rattle.table_theory.proofs.StepLemmas.{canonical_walk, canonical_deed, canonical_viable}
 use Rattle.machine_theory.specs.Machine.{Entry, top, symbols, IsStack, bottom, pushed}
-use Rattle.lawful_theory.specs.Lawful.{AllReachable, IsStartOf, IsLawfulFor, grammar_with}
+use Rattle.lawful_theory.specs.Lawful.{IsStartOf, IsLawfulFor, grammar_with}
 use Rattle.lawful_theory.specs.Laws.{CanonicalLawfulLaw, OneGrammarLaw, LawfulLaw}
 
 -- ---- walks

@@ -9,16 +9,14 @@ use Rattle.std.specs.Prelude.{◌≡◌, ℕ, ◌<◌, ◌↔◌, List, [], ◌�
 use Rattle.grammar_data.specs.declared.rule.Sym.{Sym}
 use Rattle.grammar_data.specs.Grammar.{Grammar}
 use Rattle.grammar_theory.specs.Rules.{IsInRange}
-use Rattle.grammar_theory.specs.UsefulNames.{AllProductive, IsReachable}
+use Rattle.grammar_theory.specs.UsefulNames.{AllProductive}
+use Rattle.grammar_theory.specs.UselessNames.{AllReachable}
 use Rattle.item_theory.specs.Items.{IsValid, IsViable, Deed}
 use Rattle.table_data.specs.declared.act.Act.TheVariants.{Accept}
 use Rattle.table_data.specs.Tables.{Tables, act_in, goto_in, step_by}
 use Rattle.table_theory.specs.Deeds.{HasDeed}
 use Rattle.table_theory.specs.Canonical.{deed_of}
 use Rattle.machine_theory.specs.Machine.{Entry, top, symbols, IsStack}
-
-abbrev pub AllReachable : Grammar → Type 0
-AllReachable g = (n : ℕ) → n < g.names → IsReachable g n
 
 -- the tables go from state 0 along the name to a state that accepts the end mark
 pub record IsStartOf (t : Tables) (n : ℕ) : Type 0 where

@@ -5,13 +5,14 @@ use Rattle.grammar_data.specs.declared.token.Token.{Token as TextToken}
 use Rattle.grammar_data.specs.Grammar.{Grammar}
 use Rattle.grammar_theory.specs.Rules.{IsRule, IsInRange}
 use Rattle.grammar_theory.specs.UsefulNames.{AllProductive}
+use Rattle.grammar_theory.specs.UselessNames.{AllReachable}
 use Rattle.item_theory.specs.Items.{Item}
 use Rattle.item_theory.specs.Collections.{IsCollection}
 use Rattle.table_data.specs.declared.act.Act.TheVariants.{Reduce, Error}
 use Rattle.table_data.specs.Tables.{Tables, act_in, goto_in}
 use Rattle.table_theory.specs.Canonical.{AreCanonical}
 use Rattle.machine_theory.specs.Machine.{Entry, top, symbols, IsStack, Reduces, Reaches, Settles}
-use Rattle.lawful_theory.specs.Lawful.{AllReachable, IsLawfulFor, IsLawful}
+use Rattle.lawful_theory.specs.Lawful.{IsLawfulFor, IsLawful}
 
 -- canonical tables of a grammar with useful names alone are lawful
 abbrev pub CanonicalLawfulLaw : Type 0
