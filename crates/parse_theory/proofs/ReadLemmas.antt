@@ -46,7 +46,7 @@ head_of (b ∷ u) a v = record { head = b; rest = u ++ a ∷ v; parts = refl; fi
 -- ---- reading
 
 -- the machine reads the trees of these symbols: their entries come onto the stack, and the item's dot moves over them
-pub record IsRead (g : Grammar) (t : Tables) (s : List Entry) (i : Item) (n : ℕ) (before more : List Sym) (trees : Forest) (a : TextToken) (v : List TextToken) : Type 0 where
+pub record AreRead (g : Grammar) (t : Tables) (s : List Entry) (i : Item) (n : ℕ) (before more : List Sym) (trees : Forest) (a : TextToken) (v : List TextToken) : Type 0 where
   pub taken : List Entry
   pub same : symbols taken ≡ more
   pub forest : forest_onto taken NoTree ≡ trees
@@ -59,7 +59,7 @@ pub record IsRead (g : Grammar) (t : Tables) (s : List Entry) (i : Item) (n : �
   pub ahead : last.ahead ≡ i.ahead
 
 -- one more entry in front of what is read
-read_more : {g : Grammar} {t : Tables} {s : List Entry} {i : Item} {n : ℕ} (before more : List Sym) {trees : Forest} {a : TextToken} {v : List TextToken} (e : Entry) (x : Sym) (tree : Tree) → e.symbol ≡ x → e.tree ≡ tree → Reaches t 0 s (yields (FirstTree tree trees) ++ a ∷ v) (e ∷ s) (yields trees ++ a ∷ v) → IsRead g t (e ∷ s) (moved i) n (before ++ x ∷ []) more trees a v → IsRead g t s i n before (x ∷ more) (FirstTree tree trees) a v
+read_more : {g : Grammar} {t : Tables} {s : List Entry} {i : Item} {n : ℕ} (before more : List Sym) {trees : Forest} {a : TextToken} {v : List TextToken} (e : Entry) (x : Sym) (tree : Tree) → e.symbol ≡ x → e.tree ≡ tree → Reaches t 0 s (yields (FirstTree tree trees) ++ a ∷ v) (e ∷ s) (yields trees ++ a ∷ v) → AreRead g t (e ∷ s) (moved i) n (before ++ x ∷ []) more trees a v → AreRead g t s i n before (x ∷ more) (FirstTree tree trees) a v
 read_more {g} {t} {s} {i} {n} before more {trees} {a} {v} e x tree symbol is run read = record {
   taken = read.taken ++ e ∷ [];
   same = symbols-append read.taken (e ∷ []) ∙ ap (λ y. y ∷ symbols read.taken) symbol ∙ ap (λ l. x ∷ l) read.same;
@@ -98,14 +98,14 @@ module _ {g : Grammar} {t : Tables} (lawful : IsLawfulFor g t) where
         stack = subst (λ l. IsStack t 0 l) entries by.stack;
       }
 
-  node_read : {s : List Entry} {i : Item} {m r : ℕ} {right : List Sym} {kids : Forest} {c : TextToken} {rest : List TextToken} → IsRule g.rules r m right → i.rule ≡ r → i.ahead ≡ c.id → IsRead g t s i m [] right kids c rest → IsNodeRead t s m r kids c rest
+  node_read : {s : List Entry} {i : Item} {m r : ℕ} {right : List Sym} {kids : Forest} {c : TextToken} {rest : List TextToken} → IsRule g.rules r m right → i.rule ≡ r → i.ahead ≡ c.id → AreRead g t s i m [] right kids c rest → IsNodeRead t s m r kids c rest
   node_read {s} {i} {m} {r} {right} {kids} {c} {rest} rule at ahead read =
       let less : read.last.rule < length g.rules = subst (λ k. k < length g.rules) (sym (read.rule ∙ at)) (slice_get_within g.rules r (m, right) rule.found) in
       let does : Does g read.last c.id (to_reduce r) = item_reduces read.dotted less (read.ahead ∙ ahead) (ap to_reduce (sym (read.rule ∙ at))) in
       let act = reduce_acts (act_in t (top 0 (read.taken ++ s)) c.id) r ((lawful.acts (read.taken ++ s) c.id read.stack (to_reduce r)).1 (read.last, read.is_valid, does)) in
       node_reduced read.taken rule read.same read.forest read.reached (reduction lawful read.stack act)
 
-  pub reads : {more : List Sym} {trees : Forest} → AreTrees g.rules more trees → (s : List Entry) (i : Item) (n : ℕ) (before : List Sym) (a : TextToken) (v : List TextToken) → IsStack t 0 s → IsValid g (symbols s) i → Dotted g i n before more → i.ahead ≡ a.id → IsRead g t s i n before more trees a v
+  pub reads : {more : List Sym} {trees : Forest} → AreTrees g.rules more trees → (s : List Entry) (i : Item) (n : ℕ) (before : List Sym) (a : TextToken) (v : List TextToken) → IsStack t 0 s → IsValid g (symbols s) i → Dotted g i n before more → i.ahead ≡ a.id → AreRead g t s i n before more trees a v
   reads no_tree s i n before a v is ok dotted ahead = record {
     taken = [];
     same = refl;
