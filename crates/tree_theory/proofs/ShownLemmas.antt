@@ -1,7 +1,9 @@
 -- What kids show: one tree, and the same in each store that keeps the nodes.
 use Rattle.std.proofs.Common.{◌≡◌, ◌≢◌, ℕ, List, Contains, slice_get, Option, Some, refl, sym, ap, ◌∙◌, subst}
 use Rattle.grammar_theory.specs.Trees.{Tree, Node, Forest, FirstTree}
-use Rattle.tree_theory.specs.Stores.{Ref, Kid, Hidden, Store, Supply, IsSupply, Shows, shows_token, shows_hidden, shows_node, ShowsAll, shows_none, shows_more, Refits, refits_none, refits_same, refits_hidden, Keeps, OneShownLaw, RefitLaw, GrowLaw}
+use Rattle.node_data.specs.declared.kid.Kid.{Kid}
+use Rattle.node_data.specs.declared.kid.Kid.TheVariants.{Hidden}
+use Rattle.tree_theory.specs.Stores.{Ref, Store, Supply, IsSupply, Shows, shows_token, shows_hidden, shows_node, ShowsAll, shows_none, shows_more, Refits, refits_none, refits_same, refits_hidden, Keeps, OneShownLaw, RefitLaw, GrowLaw}
 
 same_some : {X : Type 0} {x y : X} → ◌≡◌ {A = Option X} (Some x) (Some y) → x ≡ y
 same_some e = cc

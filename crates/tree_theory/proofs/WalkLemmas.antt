@@ -1,7 +1,9 @@
 -- Walks: there is one, and what it meets is the tree.
 use Rattle.std.proofs.Common.{◌≡◌, ℕ, suc, ◌+◌, List, [], ◌∷◌, ◌++◌, Contains, Some, refl, sym, ap, ◌∙◌, subst, append-nil, arith}
 use Rattle.grammar_theory.specs.Trees.{Tree, Node, Forest, FirstTree, yield, yields, nodes, nodes_of}
-use Rattle.tree_theory.specs.Stores.{Ref, Kid, NodeKid, Store, Shows, shows_token, shows_hidden, shows_node, ShowsAll, shows_none, shows_more}
+use Rattle.node_data.specs.declared.kid.Kid.{Kid}
+use Rattle.node_data.specs.declared.kid.Kid.TheVariants.{Node as NodeKid}
+use Rattle.tree_theory.specs.Stores.{Ref, Store, Shows, shows_token, shows_hidden, shows_node, ShowsAll, shows_none, shows_more}
 use Rattle.tree_theory.specs.Walks.{Step, Enter, AtToken, AtHidden, Leave, Walks, walks_token, walks_hidden, walks_node, WalksAll, walks_none, walks_more, tokens_in, entered, OneWalkLaw, WalkLaw}
 use Rattle.tree_theory.proofs.ShownLemmas.{some_pair}
 

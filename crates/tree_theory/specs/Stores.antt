@@ -6,17 +6,13 @@
 -- 2.4.1; stores and supplies are this project's own.
 use Rattle.std.specs.Prelude.{◌≡◌, ◌≢◌, ℕ, suc, List, [], ◌∷◌, Contains, slice_get, Option, Some}
 use Rattle.grammar_data.specs.declared.token.Token.{Token as TextToken}
+use Rattle.node_data.specs.declared.kid.Kid.{Kid}
+use Rattle.node_data.specs.declared.kid.Kid.TheVariants.{Token, Node as NodeKid, Hidden}
 use Rattle.grammar_theory.specs.Trees.{Tree, Leaf, Node, Forest, NoTree, FirstTree}
 
 -- where a node stands: its chunk, and its place in the chunk
 abbrev pub Ref : Type 0
 Ref = ℕ × ℕ
-
--- a kid of a node
-pub data Kid : Type 0 where
-  TokenKid : TextToken → Kid
-  NodeKid : Ref → Kid
-  Hidden : Kid
 
 -- the rule and the kids of each node
 abbrev pub Store : Type 0
@@ -33,7 +29,7 @@ IsSupply supply = (n : Ref) (trees others : List Tree) → Contains {X = Ref × 
 -- kid `i` of node `n` shows the tree; the kids from `i` on show the trees
 mutual
   pub data Shows (store : Store) (supply : Supply) : Ref → ℕ → Kid → Tree → Type 0 where
-    shows_token : {n : Ref} {i : ℕ} {token : TextToken} → Shows store supply n i (TokenKid token) (Leaf token)
+    shows_token : {n : Ref} {i : ℕ} {token : TextToken} → Shows store supply n i (Token token) (Leaf token)
     shows_hidden : {n : Ref} {i : ℕ} {tree : Tree} (trees : List Tree) → Contains {X = Ref × List Tree} supply (n, trees) → slice_get trees i ≡ Some tree → Shows store supply n i Hidden tree
     shows_node : {n : Ref} {i : ℕ} {m : Ref} {r : ℕ} {trees : Forest} (kids : List Kid) → store m ≡ Some (r, kids) → ShowsAll store supply m 0 kids trees → Shows store supply n i (NodeKid m) (Node r trees)
 

@@ -4,7 +4,9 @@
 use Rattle.std.specs.Prelude.{◌≡◌, ℕ, suc, List, [], ◌∷◌, ◌++◌, Some}
 use Rattle.grammar_data.specs.declared.token.Token.{Token as TextToken}
 use Rattle.grammar_theory.specs.Trees.{Tree, yield, nodes}
-use Rattle.tree_theory.specs.Stores.{Ref, Kid, TokenKid, NodeKid, Hidden, Store, Shows}
+use Rattle.node_data.specs.declared.kid.Kid.{Kid}
+use Rattle.node_data.specs.declared.kid.Kid.TheVariants.{Token, Node as NodeKid, Hidden}
+use Rattle.tree_theory.specs.Stores.{Ref, Store, Shows}
 
 -- a step of a walk
 pub data Step : Type 0 where
@@ -16,7 +18,7 @@ pub data Step : Type 0 where
 -- the walk over kid `i` of node `n`; over its kids from `i` on
 mutual
   pub data Walks (store : Store) : Ref → ℕ → Kid → List Step → Type 0 where
-    walks_token : {n : Ref} {i : ℕ} {token : TextToken} → Walks store n i (TokenKid token) (AtToken token ∷ [])
+    walks_token : {n : Ref} {i : ℕ} {token : TextToken} → Walks store n i (Token token) (AtToken token ∷ [])
     walks_hidden : {n : Ref} {i : ℕ} → Walks store n i Hidden (AtHidden n i ∷ [])
     walks_node : {n : Ref} {i : ℕ} {m : Ref} {r : ℕ} {inner steps : List Step} (kids : List Kid) → store m ≡ Some (r, kids) → WalksAll store m 0 kids inner → steps ≡ Enter m ∷ (inner ++ Leave m ∷ []) → Walks store n i (NodeKid m) steps
 
