@@ -1,5 +1,6 @@
 -- What bytes are to a task that looks at them as a sheet: accepted, or refused with what is said of their first fault.
-use Rattle.std.specs.Prelude.{◌≡◌, ◌≢◌, ℕ, List}
+use Rattle.std.specs.Prelude.{◌≡◌, ◌≢◌, ℕ, ◌+◌, List}
+use Rattle.scanning_theory.specs.declared.limits.TheConstants.{STATES}
 use Rattle.position_theory.specs.States.{HasMoreStates}
 use Rattle.sheet_data.specs.Sheet.{Sheet}
 use Rattle.sheet_theory.specs.ScanOrder.{scanning_of}
@@ -15,11 +16,11 @@ use Rattle.answer_theory.specs.Tasks.{Looking, for_scanning, for_parsing}
 
 -- the sheet's patterns have more states than a scanner may have
 abbrev pub HasTooManyStates : Sheet → Type 0
-HasTooManyStates sheet = HasMoreStates (scanning_of sheet).patterns 20000
+HasTooManyStates sheet = HasMoreStates (scanning_of sheet).patterns STATES
 
 -- the fault of such a sheet
 abbrev pub states_fault : SheetFault
-states_fault = Limit ScannerStates 20001
+states_fault = Limit ScannerStates (STATES + 1)
 
 -- the bytes are a sheet's, and a scanner can have the states of its patterns
 pub record Scans (bytes : List ℕ) (sheet : Sheet) : Type 0 where

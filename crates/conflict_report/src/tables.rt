@@ -1,6 +1,7 @@
 //! Tables, with the items of their states.
 ghost use Rattle.std.specs.Prelude.{◌≡◌, ◌<◌, ◌≤◌, ◌++◌, map, codes, All, IfOk, OnOk};
 ghost use Rattle.std.specs.List.{flat_map};
+ghost use Rattle.lr_base.specs.declared.limits.TheConstants.{TOKENS};
 ghost use Rattle.collection_data.specs.Entries.{IsEntry};
 ghost use Rattle.report_theory.specs.ItemTexts.{behind_space, token_text};
 ghost use Rattle.report_theory.specs.TableTexts.{aheads_in, entry_line, entry_lines, act_line, act_lines, goto_line, goto_lines, state_text, states_line, tables_text as text_of_tables};
@@ -17,7 +18,7 @@ use std::alloc::Global;
 /// The end mark's number.
 fn end_of(sheet: &Sheet) -> TokenId
     ensures end { result ≡ sheet.now.grammar.tokens }
-    ensures few { result ≤ 250 }
+    ensures few { result ≤ TOKENS }
 {
     let grammar = sheet.grammar();
     grammar.holds();

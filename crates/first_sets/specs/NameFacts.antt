@@ -2,6 +2,7 @@
 use Rattle.std.specs.Prelude.{◌≡◌, ℕ, ◌<◌, ◌≤◌, ◌↔◌, Bool, ◌==◌, if◌then◌else◌, nat_lt, IsTrue, List, [], length, slice_index, slice_index_or, Option, Some, None}
 use Rattle.grammar_data.specs.Grammar.{Grammar}
 use Rattle.grammar_data.specs.TokenSet.{IsTokenSet, has_token}
+use Rattle.grammar_theory.specs.declared.limits.TheConstants.{EMPTY_NODES}
 use Rattle.grammar_theory.specs.EmptyNames.{IsNullable, HasEmptySize}
 use Rattle.grammar_theory.specs.FirstTokens.{FirstHas}
 
@@ -32,7 +33,7 @@ pub record AreSizes (g : Grammar) (sizes : List ℕ) : Type 0 where
   pub count : length sizes ≡ g.names
   pub nullable : (n : ℕ) → IsTrue (nat_lt 0 (slice_index sizes n)) ↔ IsNullable g n
   pub size : (n k : ℕ) → (size_of (slice_index sizes n) ≡ Some k) ↔ HasEmptySize g n k
-  pub small : (n k : ℕ) → size_of (slice_index sizes n) ≡ Some k → k ≤ 1000
+  pub small : (n k : ℕ) → size_of (slice_index sizes n) ≡ Some k → k ≤ EMPTY_NODES
 
 -- the facts are those of the grammar's names, and each empty size is at most 1,000
 pub record AreFirsts (g : Grammar) (facts : NameFacts) : Type 0 where
@@ -40,5 +41,5 @@ pub record AreFirsts (g : Grammar) (facts : NameFacts) : Type 0 where
   pub nullable : (n : ℕ) → IsTrue (nullable_in facts n) ↔ IsNullable g n
   pub first : (n a : ℕ) → IsTrue (has_token (first_set_in facts n) a) ↔ FirstHas g n a
   pub size : (n k : ℕ) → (empty_size_in facts n ≡ Some k) ↔ HasEmptySize g n k
-  pub small : (n k : ℕ) → empty_size_in facts n ≡ Some k → k ≤ 1000
+  pub small : (n k : ℕ) → empty_size_in facts n ≡ Some k → k ≤ EMPTY_NODES
   pub sets : (n : ℕ) → n < g.names → IsTokenSet (first_set_in facts n)

@@ -1,4 +1,5 @@
 ghost use Rattle.std.specs.Prelude.{◌≡◌, ◌↔◌, ℕ, ◌≤◌, length, All, IfErr, IfOk, IsTrue, MatchOption, MatchResult};
+ghost use Rattle.lr_base.specs.declared.limits.TheConstants.{NAMES};
 ghost use Rattle.lr_base.specs.IsGrammar.{IsGrammar};
 ghost use Rattle.grammar_data.specs.TokenSet.{IsTokenSet, has_token};
 ghost use Rattle.grammar_theory.specs.UsefulNames.{AllProductive};
@@ -26,7 +27,7 @@ use std::alloc::Global;
 
 /// The least name that isn't known.
 fn least_unknown(known: &[bool]) -> Option<NameId>
-    requires { length known.now ≤ 500 }
+    requires { length known.now ≤ NAMES }
     ensures { MatchOption result (AreKnownBelow known.now (length known.now)) (IsLeastUnknown known.now) }
 {
     for name in 0..known.len() {

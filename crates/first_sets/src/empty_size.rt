@@ -1,16 +1,16 @@
 ghost use Rattle.std.specs.Prelude.{◌≡◌, ◌↔◌, ℕ, ◌<◌, ◌≤◌, length, Contains, IfOk, IsTrue, MatchOption};
+ghost use Rattle.lr_base.specs.declared.limits.TheConstants.{NAMES};
 ghost use Rattle.lr_base.specs.IsGrammar.{IsGrammar};
+ghost use Rattle.grammar_theory.specs.declared.limits.TheConstants.{EMPTY_NODES};
 ghost use Rattle.grammar_theory.specs.EmptyNames.{AddsUp, IsNullable, IsSizedBelow};
 ghost use Rattle.first_sets.specs.EmptySizes.{AreEmptyRules, AreSized, IsLeastUnsized, IsRound, IsSizedBy, size_in, symbol_size_in};
 ghost use Rattle.first_sets.specs.KnownNames.{is_known};
 
 use crate::known_names::{Lists, are_known};
 use grammar_data::{NameId, RuleId, Sym};
+use grammar_theory::EMPTY_NODES;
 use lr_base::{Grammar, NoMemory};
 use std::alloc::Global;
-
-/// The largest empty size that tables are built for.
-const LARGEST: u32 = 1_000;
 
 /// The numbers of the rules whose right sides are nullable names alone.
 fn empty_rules(alloc: Global, grammar: &Grammar, nullable: &[bool]) -> Result<Vec<u32>, NoMemory>
@@ -53,7 +53,7 @@ fn adds_up(right: &[Sym], sizes: &[u32], total: u32) -> bool
 fn size_left(grammar: &Grammar, rule: RuleId, total: u32, sizes: &mut Vec<u32>)
     requires rule { rule < length grammar.now.rules }
     requires names { length sizes.old.items ≡ grammar.now.names }
-    requires total { total < 1000 }
+    requires total { total < EMPTY_NODES }
     ensures sized { IsSizedBy grammar.now.rules rule total sizes.old.items sizes.new.items }
     ensures names { length sizes.new.items ≡ grammar.now.names }
 {
@@ -68,7 +68,7 @@ fn size_round(grammar: &Grammar, numbers: &[u32], total: u32, sizes: &mut Vec<u3
     requires grammar { IsGrammar grammar.now }
     requires rules { (r : ℕ) → Contains numbers.now r → r < length grammar.now.rules }
     requires names { length sizes.old.items ≡ grammar.now.names }
-    requires total { total < 1000 }
+    requires total { total < EMPTY_NODES }
     ensures round { IsRound grammar.now numbers.now total sizes.old.items sizes.new.items }
     ensures names { length sizes.new.items ≡ grammar.now.names }
 {
@@ -79,7 +79,7 @@ fn size_round(grammar: &Grammar, numbers: &[u32], total: u32, sizes: &mut Vec<u3
 
 /// The least nullable name that has no size.
 pub fn least_unsized(nullable: &[bool], sizes: &[u32]) -> Option<NameId>
-    requires few { length nullable.now ≤ 500 }
+    requires few { length nullable.now ≤ NAMES }
     requires count { length sizes.now ≡ length nullable.now }
     ensures { MatchOption result
         (AreSized nullable.now sizes.now (length nullable.now))
@@ -109,7 +109,7 @@ pub fn empty_sizes(
 {
     let numbers = empty_rules(alloc, grammar, nullable)?;
     let mut sizes = vec![in alloc; 0; grammar.names() as usize]?;
-    for total in 0..LARGEST {
+    for total in 0..EMPTY_NODES {
         match least_unsized(nullable, &sizes) {
             None => return Ok(sizes),
             Some(_) => size_round(grammar, &numbers, total, &mut sizes),

@@ -1,4 +1,5 @@
 ghost use Rattle.std.specs.Prelude.{◌≡◌, ◌↔◌, ℕ, ◌<◌, ◌≤◌, length, All, Contains, IfOk, IsTrue, MatchBool};
+ghost use Rattle.lr_base.specs.declared.limits.TheConstants.{SYMBOLS};
 ghost use Rattle.lr_base.specs.IsGrammar.{IsGrammar, IsSymbolOf};
 ghost use Rattle.grammar_data.specs.TokenSet.{IsTokenSet, has_token};
 ghost use Rattle.grammar_theory.specs.FirstTokens.{FirstHas};
@@ -48,7 +49,7 @@ pub fn first_tokens(
     readers: &Relation,
 ) -> Result<Vec<TokenSet>, NoMemory>
     requires range { All (IsOpeningOf grammar.now.names) openings.now }
-    requires few { length openings.now ≤ 4000 }
+    requires few { length openings.now ≤ SYMBOLS }
     requires passes { PassesOn grammar.now openings.now }
     requires readers { AreReaders openings.now readers.now.pairs }
     requires keys { readers.now.keys ≡ grammar.now.names }

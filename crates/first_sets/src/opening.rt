@@ -1,4 +1,5 @@
 ghost use Rattle.std.specs.Prelude.{◌≡◌, ◌≤◌, length, All, IfOk, OnOk};
+ghost use Rattle.lr_base.specs.declared.limits.TheConstants.{SYMBOLS};
 ghost use Rattle.first_sets.specs.Openings.{AreOpenings, AreReaders, HasOpeningsOf, IsOpeningOf};
 
 use crate::known_names::{Lists, is_known_symbol};
@@ -43,7 +44,7 @@ pub fn openings_of(
     nullable: &[bool],
 ) -> Result<Vec<Opening>, NoMemory>
     ensures openings { IfOk result (λ openings. AreOpenings nullable.now grammar.now.rules openings.items) }
-    ensures few { IfOk result (λ openings. length openings.items ≤ 4000) }
+    ensures few { IfOk result (λ openings. length openings.items ≤ SYMBOLS) }
 {
     let mut openings = Vec::new(alloc);
     for rule in grammar.rules() {
@@ -54,7 +55,7 @@ pub fn openings_of(
 
 /// The names that are symbols of openings, each with the place of the opening.
 fn pairs_of_readers(alloc: Global, openings: &[Opening]) -> Result<Vec<(u32, u32)>, NoMemory>
-    requires { length openings.now ≤ 4000 }
+    requires { length openings.now ≤ SYMBOLS }
     ensures readers { IfOk result (λ pairs. AreReaders openings.now pairs.items) }
     ensures few { IfOk result (λ pairs. length pairs.items ≤ length openings.now) }
 {
@@ -69,7 +70,7 @@ fn pairs_of_readers(alloc: Global, openings: &[Opening]) -> Result<Vec<(u32, u32
 
 /// For each name the places of the openings whose symbol it is.
 pub fn readers_of(alloc: Global, openings: &[Opening], names: u32) -> Result<Relation, NoMemory>
-    requires few { length openings.now ≤ 4000 }
+    requires few { length openings.now ≤ SYMBOLS }
     requires range { All (IsOpeningOf names) openings.now }
     ensures readers { IfOk result (λ readers. AreReaders openings.now readers.pairs) }
     ensures keys { IfOk result (λ readers. readers.keys ≡ names) }

@@ -1,4 +1,5 @@
 ghost use Rattle.std.specs.Prelude.{◌≡◌, ◌≤◌, length, IfOk, OnOk};
+ghost use Rattle.lr_base.specs.declared.limits.TheConstants.{SYMBOLS};
 ghost use Rattle.lr_base.specs.IsGrammar.{IsGrammar};
 ghost use Rattle.first_sets.specs.KnownNames.{AreMentions, AreUses, HasNamesOf};
 
@@ -22,7 +23,7 @@ fn push_names(right: &[Sym], number: u32, pairs: &mut Vec<(u32, u32)>) -> Result
 /// The names of all right sides, each with the number of the rule that it stands in.
 fn pairs_of_uses(alloc: Global, grammar: &Grammar) -> Result<Vec<(u32, u32)>, NoMemory>
     ensures uses { IfOk result (λ pairs. AreUses grammar.now.rules pairs.items) }
-    ensures few { IfOk result (λ pairs. length pairs.items ≤ 4000) }
+    ensures few { IfOk result (λ pairs. length pairs.items ≤ SYMBOLS) }
 {
     let mut pairs = Vec::new(alloc);
     for (number, rule) in grammar.rules().iter().enumerate() {
@@ -36,7 +37,7 @@ pub fn uses_of_names(alloc: Global, grammar: &Grammar) -> Result<Relation, NoMem
     requires { IsGrammar grammar.now }
     ensures uses { IfOk result (λ uses. AreUses grammar.now.rules uses.pairs) }
     ensures keys { IfOk result (λ uses. uses.keys ≡ grammar.now.names) }
-    ensures few { IfOk result (λ uses. length uses.pairs ≤ 4000) }
+    ensures few { IfOk result (λ uses. length uses.pairs ≤ SYMBOLS) }
 {
     let pairs = pairs_of_uses(alloc, grammar)?;
     Relation::new(alloc, pairs, grammar.names())
@@ -67,7 +68,7 @@ pub fn mentions_of_names(
 ) -> Result<Relation, NoMemory>
     requires grammar { IsGrammar grammar.now }
     requires uses { AreUses grammar.now.rules uses.now.pairs }
-    requires few { length uses.now.pairs ≤ 4000 }
+    requires few { length uses.now.pairs ≤ SYMBOLS }
     ensures mentions { IfOk result (λ mentions. AreMentions grammar.now.rules mentions.pairs) }
     ensures keys { IfOk result (λ mentions. mentions.keys ≡ grammar.now.names) }
 {

@@ -4,6 +4,7 @@
 use Rattle.std.specs.Prelude.{◌≡◌, ℕ, ◌<◌, [], ◌∷◌}
 use Rattle.grammar_data.specs.declared.rule.Sym.TheVariants.{Name}
 use Rattle.grammar_data.specs.Grammar.{Grammar}
+use Rattle.grammar_theory.specs.declared.limits.TheConstants.{EMPTY_NODES}
 use Rattle.grammar_theory.specs.UsefulNames.{IsProductive, AllProductive, IsReachable}
 use Rattle.grammar_theory.specs.EmptyNames.{IsNullable, Vanishes}
 
@@ -13,7 +14,7 @@ AllReachable g = (n : ℕ) → n < g.names → IsReachable g n
 -- the name is nullable, and its least empty tree has more than 1,000 inner nodes
 pub record IsEmptyTooLarge (g : Grammar) (n : ℕ) : Type 0 where
   pub nullable : IsNullable g n
-  pub large : (k : ℕ) → Vanishes g.rules (Name n ∷ []) k → 1000 < k
+  pub large : (k : ℕ) → Vanishes g.rules (Name n ∷ []) k → EMPTY_NODES < k
 
 abbrev pub AllEmptySmall : Grammar → Type 0
 AllEmptySmall g = (n : ℕ) → n < g.names → ¬ (IsEmptyTooLarge g n)

@@ -9,6 +9,10 @@ ghost use Rattle.grammar_theory.specs.UselessNames.{OneUnproductiveLaw, OneUnrea
 ghost use Rattle.grammar_theory.specs.EmptyNames.{EmptyTreeLaw, NullableSizeLaw, OneSizeLaw, NullableRuleLaw, NullableListLaw, NullableTestLaw, FirstRoundLaw, RoundLaw, NextRoundLaw, UnsizedLaw};
 ghost use Rattle.grammar_theory.specs.FirstTokens.{FirstOnlyLaw, FirstLaw, FollowsOnlyLaw, FollowsLaw, FoundPartsLaw, FirstRuleOnlyLaw, FirstRuleLaw, FirstTableLaw};
 
+mod limits;
+
+pub use limits::EMPTY_NODES;
+
 /// Derivations are joined, split and folded, and agree with steps.
 pub fn derivation_laws()
     ensures append { AppendLaw }

@@ -1,25 +1,12 @@
 ghost use Rattle.std.specs.Prelude.{◌≡◌, ◌↔◌, ℕ, ◌+◌, ◌^◌, ◌<◌, ◌≤◌, List, Some, true, false, length, map, slice_get, slice_index_or, All, Contains, IfSome, IsSome, IsTrue};
 ghost use Rattle.std.specs.Option.{option_map};
 ghost use Rattle.grammar_data.specs.declared.rule.Sym.{Sym};
+ghost use Rattle.lr_base.specs.declared.limits.TheConstants.{NAMES, RULES, SIDE_SYMBOLS, SYMBOLS, TOKENS};
 ghost use Rattle.lr_base.specs.IsGrammar.{HasRuleForEach, IsGrammar, IsRuleOf, IsSymbolOf, symbols_of};
 
+use crate::limits::{NAMES, RULES, SIDE_SYMBOLS, SYMBOLS, TOKENS};
 use grammar_data::{NameId, Rule, RuleId, Sym, TokenId};
 use std::marker::Model;
-
-/// The most tokens that a grammar may have.
-const TOKENS: u32 = 250;
-
-/// The most names.
-const NAMES: usize = 500;
-
-/// The most rules.
-const RULES: usize = 1_000;
-
-/// The most symbols of one right side.
-const SIDE_SYMBOLS: usize = 20;
-
-/// The most symbols of all right sides together.
-const SYMBOLS: usize = 4_000;
 
 /// A grammar: how many tokens and names it has, its rules, and its start name. Identifiers are in range, each name has
 /// a rule, and the limits hold.
@@ -82,17 +69,17 @@ fn count_symbols(rules: &[Rule]) -> usize
 }
 
 fn are_few_symbols(rules: &[Rule]) -> bool
-    requires few { length rules.now ≤ 1000 }
-    requires short { All (λ rule. length rule.1 ≤ 20) rules.now }
-    ensures { IsTrue result ↔ symbols_of rules.now ≤ 4000 }
+    requires few { length rules.now ≤ RULES }
+    requires short { All (λ rule. length rule.1 ≤ SIDE_SYMBOLS) rules.now }
+    ensures { IsTrue result ↔ symbols_of rules.now ≤ SYMBOLS }
 {
     count_symbols(rules) <= SYMBOLS
 }
 
 /// Which names are left sides.
 fn left_sides(rules: &[Rule]) -> [bool; NAMES]
-    requires { All (λ rule. rule.0 < 500) rules.now }
-    ensures len { length result ≡ 500 }
+    requires { All (λ rule. rule.0 < NAMES) rules.now }
+    ensures len { length result ≡ NAMES }
     ensures only { (n : ℕ) → slice_index_or result n false ≡ true → (right : List Sym) × Contains rules.now (n, right) }
     ensures all { All (λ rule. slice_index_or result rule.0 false ≡ true) rules.now }
 {
@@ -110,7 +97,7 @@ fn are_true(marks: &[bool]) -> bool
 }
 
 fn has_rule_for_each(rules: &[Rule], names: u32) -> bool
-    requires within { names ≤ 500 }
+    requires within { names ≤ NAMES }
     requires lefts { All (λ rule. rule.0 < names) rules.now }
     ensures { IsTrue result ↔ HasRuleForEach names rules.now }
 {
@@ -121,7 +108,7 @@ fn has_rule_for_each(rules: &[Rule], names: u32) -> bool
 fn is_grammar(tokens: u32, names: u32, rules: &[Rule], start: NameId) -> bool
     ensures { IsTrue result ↔ IsGrammar (record { tokens = tokens; names = names; rules = rules.now; start = start }) }
 {
-    tokens <= TOKENS
+    tokens as usize <= TOKENS
         && names as usize <= NAMES
         && start.0 < names
         && !rules.is_empty()
@@ -222,7 +209,7 @@ impl Grammar {
         requires { rule < length self.now.rules }
         ensures right { option_map (λ rule. rule.1) (slice_get self.now.rules rule) ≡ Some result.now }
         ensures in_range { All (IsSymbolOf self.now.tokens self.now.names) result.now }
-        ensures short { length result.now ≤ 20 }
+        ensures short { length result.now ≤ SIDE_SYMBOLS }
     {
         &self.rules[rule.0 as usize].right
     }

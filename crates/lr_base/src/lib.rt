@@ -27,7 +27,9 @@ pub use file_shelf::FileShelf;
 pub use gate::{Gate, OpenGate};
 pub use grammar::Grammar;
 pub use grammar_data::{NameId, Place, Rule, RuleId, StateId, Sym, Token, TokenId};
-pub use limits::{READ_BYTES, SHEET_BYTES, TEXT_BYTES};
+pub use limits::{
+    NAMES, READ_BYTES, RULES, SHEET_BYTES, SIDE_SYMBOLS, SKIPS, SYMBOLS, TEXT_BYTES, TOKENS,
+};
 pub use mem_shelf::MemShelf;
 pub use mem_sink::MemSink;
 pub use reading::{ReadFault, Text, read_all};

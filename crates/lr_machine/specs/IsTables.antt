@@ -1,5 +1,7 @@
 -- What makes parts tables: the limits, rows of one width, and identifiers in range; and tables that say nothing yet.
 use Rattle.std.specs.Prelude.{◌≡◌, ℕ, ◌+◌, ◌*◌, ◌≤◌, length, All, None}
+use Rattle.lr_base.specs.declared.limits.TheConstants.{TOKENS, NAMES, RULES}
+use Rattle.table_data.specs.declared.limits.TheConstants.{MOST_STATES}
 use Rattle.grammar_data.specs.Grammar.{Grammar}
 use Rattle.lr_base.specs.IsGrammar.{IsRuleOf}
 use Rattle.table_data.specs.declared.act.Act.TheVariants.{Error}
@@ -8,10 +10,10 @@ use Rattle.table_data.specs.Tables.{Tables, IsActOf, IsGotoOf, act_in, goto_in}
 -- at most 250 tokens, 500 names, 1,000 rules and 10,000 states; a row has an action for each token and for the end mark,
 -- and a goto for each name; states, rules and symbols are in range
 pub record IsTables (t : Tables) : Type 0 where
-  pub few_tokens : t.tokens ≤ 250
-  pub few_names : t.names ≤ 500
-  pub few_rules : length t.rules ≤ 1000
-  pub few_states : t.states ≤ 10000
+  pub few_tokens : t.tokens ≤ TOKENS
+  pub few_names : t.names ≤ NAMES
+  pub few_rules : length t.rules ≤ RULES
+  pub few_states : t.states ≤ MOST_STATES
   pub acts_size : length t.acts ≡ t.states * (t.tokens + 1)
   pub gotos_size : length t.gotos ≡ t.states * t.names
   pub rules : All (IsRuleOf t.tokens t.names) t.rules

@@ -1,4 +1,6 @@
 ghost use Rattle.std.specs.Prelude.{◌≡◌, ◌<◌, ◌≤◌};
+ghost use Rattle.lr_base.specs.declared.limits.TheConstants.{RULES};
+ghost use Rattle.table_data.specs.declared.limits.TheConstants.{MOST_STATES};
 ghost use Rattle.table_data.specs.Tables.{IsActOf};
 
 use grammar_data::{RuleId, StateId};
@@ -33,7 +35,7 @@ const _: () = prove!(std::mem::size_of::<ActCell>() == 4);
 impl ActCell {
     /// The cell of an action whose state and rule are below 2 ^ 30.
     pub fn of(act: Act) -> ActCell
-        requires { IsActOf 10000 1000 act }
+        requires { IsActOf MOST_STATES RULES act }
         ensures { result ≡ act }
     {
         match act {

@@ -1,5 +1,7 @@
 ghost use Rattle.std.specs.Prelude.{◌≡◌, ◌≢◌, ◌↔◌, ℕ, ◌+◌, ◌<◌, ◌≤◌, ◌==◌, ◌&&◌, if◌then◌else◌, IsTrue, IfOk, Some, length, slice_get, All};
 ghost use Rattle.std.specs.Option.{option_map};
+ghost use Rattle.lr_base.specs.declared.limits.TheConstants.{RULES, SIDE_SYMBOLS, TOKENS};
+ghost use Rattle.table_data.specs.declared.limits.TheConstants.{MOST_STATES};
 ghost use Rattle.lr_base.specs.IsGrammar.{IsSymbolOf};
 ghost use Rattle.table_data.specs.declared.act.Act.TheVariants.{Error};
 ghost use Rattle.table_data.specs.Tables.{IsActOf, IsGotoOf, act_in, goto_in};
@@ -43,7 +45,7 @@ impl Tables {
     /// Tables with the rules of the grammar and so many states, at most 10,000. Each action is an error, and there is no
     /// goto.
     pub fn blank(alloc: Global, grammar: &Grammar, states: u32) -> Result<Tables, NoMemory>
-        requires { states ≤ 10000 }
+        requires { states ≤ MOST_STATES }
         ensures { IfOk result (λ tables. AreBlank grammar.now states tables) }
     {
         let tokens = grammar.tokens();
@@ -105,7 +107,7 @@ impl Tables {
     /// How many states there are; they are numbered from 0.
     pub fn states(&self) -> u32
         ensures states { result ≡ self.now.states }
-        ensures few { result ≤ 10000 }
+        ensures few { result ≤ MOST_STATES }
     {
         self.states
     }
@@ -113,7 +115,7 @@ impl Tables {
     /// How many rules there are; they are numbered from 0.
     pub fn rule_count(&self) -> u32
         ensures rules { result ≡ length self.now.rules }
-        ensures few { result ≤ 1000 }
+        ensures few { result ≤ RULES }
     {
         self.rules.len() as u32
     }
@@ -121,7 +123,7 @@ impl Tables {
     /// The number of the end mark, the first after the tokens.
     pub fn end(&self) -> TokenId
         ensures end { result ≡ self.now.tokens }
-        ensures few { result ≤ 250 }
+        ensures few { result ≤ TOKENS }
     {
         TokenId(self.tokens)
     }
@@ -140,7 +142,7 @@ impl Tables {
         requires { rule < length self.now.rules }
         ensures right { option_map (λ rule. rule.1) (slice_get self.now.rules rule) ≡ Some result.now }
         ensures in_range { All (IsSymbolOf self.now.tokens self.now.names) result.now }
-        ensures short { length result.now ≤ 20 }
+        ensures short { length result.now ≤ SIDE_SYMBOLS }
     {
         &self.rules[rule.0 as usize].right
     }

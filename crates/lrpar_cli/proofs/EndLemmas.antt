@@ -1,9 +1,9 @@
 -- How a call ends by the outcome of its command.
-use Rattle.std.proofs.Common.{◌≡◌, ◌≢◌, ◌⊎◌, inl, inr, ⊎_elim, List, [], ℕ, Result, Ok, Err, refl, sym, subst, append-nil}
+use Rattle.std.proofs.Common.{◌≡◌, ◌≢◌, ◌⊎◌, inl, inr, List, [], ℕ, Result, Ok, Err, refl, sym, subst, append-nil}
 use Rattle.lr_base.specs.Outside.{ShelfSeen, SinkSeen}
 use Rattle.sheet_data.specs.Sheet.{Sheet}
 use Rattle.answer_theory.specs.declared.status.Status.{Status}
-use Rattle.answer_theory.specs.declared.status.Status.TheVariants.{Done, WriteFault, NoMemory, TextTooLong}
+use Rattle.answer_theory.specs.declared.status.Status.TheVariants.{Done, WriteFault, NoMemory}
 use Rattle.answer_theory.specs.declared.task.Task.{Task}
 use Rattle.answer_theory.specs.declared.task.Task.TheVariants.{Tokens, Check, Tables}
 use Rattle.answer_theory.specs.Tasks.{inputs_of}

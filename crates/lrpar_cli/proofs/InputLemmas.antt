@@ -1,8 +1,8 @@
 -- What was read for a command, and why a reading stopped.
-use Rattle.std.proofs.Common.{◌≡◌, ◌≢◌, ℕ, ◌+◌, ◌<◌, List, [], length, Option, Some, None, IsSome, IsTrue, IfSome, Result, Ok, Err, IfOk, IfErr, refl, sym, ap, subst, arith, length-append, inl, inr}
+use Rattle.std.proofs.Common.{◌≡◌, ◌≢◌, ℕ, ◌+◌, ◌<◌, List, length, Option, Some, None, IfSome, Result, Ok, Err, IfOk, IfErr, refl, sym, ap, subst, arith, length-append, inl, inr}
 use Rattle.std.specs.Io.KnownBytes.{Consumes}
 use Rattle.lr_base.specs.Outside.{ShelfSeen}
-use Rattle.lr_base.specs.Reading.{IsThere, StandsUnder, IsWholeText, IsTooLong}
+use Rattle.lr_base.specs.Reading.{IsThere, StandsUnder, IsTooLong}
 use Rattle.outline_data.specs.declared.fault.LimitKind.TheVariants.{SheetBytes}
 use Rattle.outline_data.specs.declared.fault.SheetFault.{SheetFault}
 use Rattle.outline_data.specs.declared.fault.SheetFault.TheVariants.{Limit, NoMemory as no_memory}
@@ -10,14 +10,13 @@ use Rattle.sheet_data.specs.Sheet.{Sheet}
 use Rattle.outline_theory.specs.Reading.{Reads, IsFirstFault}
 use Rattle.sheet_reader.specs.Faults.{IsReadFault}
 use Rattle.report_theory.specs.FaultTexts.{fault_text}
-use Rattle.answer_theory.specs.declared.status.Status.{Status}
 use Rattle.answer_theory.specs.declared.status.Status.TheVariants.{SheetRefused}
-use Rattle.answer_theory.specs.Sheets.{HasTooManyStates, states_fault, Scans, IsFault, of_reading, of_states, by_fault, by_grammar, IsRefused}
+use Rattle.answer_theory.specs.Sheets.{HasTooManyStates, states_fault, Scans, of_reading, of_states, by_fault, by_grammar, IsRefused}
 use Rattle.answer_theory.specs.Tasks.{Looking, Input, for_scanning, for_parsing}
 use Rattle.lrpar_cli.specs.declared.stop.Stop.{Stop}
 use Rattle.lrpar_cli.specs.declared.stop.Stop.TheVariants.{Due, Unread, Unwritten, Spent}
 use Rattle.lrpar_cli.specs.declared.inputs.Scanned.{Scanned}
-use Rattle.lrpar_cli.specs.Inputs.{HasSheet, HasRefusal, IsSheetStop, HasLongInput, IsInputStop, IsScanStop, IsStatesStop, IsGrammarStop}
+use Rattle.lrpar_cli.specs.Inputs.{HasSheet, IsSheetStop, IsInputStop, IsScanStop, IsStatesStop, IsGrammarStop}
 use Rattle.lrpar_cli.specs.Stops.{IsDueStop}
 
 -- some bytes stand there, and they are more than the limit
@@ -39,10 +38,10 @@ pub over : (before after : ShelfSeen) (name : List ℕ) (limit : ℕ) → IsTooL
 over before after name limit h = over_limit before name (before.stands name) after.left limit h.front refl h.there h.over h.consumed
 
 -- a sheet that is too long is refused
-pub long_sheet : (looking : Looking) (before after : ShelfSeen) (name : List ℕ) (stop : Stop) → IsTooLong before after name 262144 → IsDueStop SheetRefused (fault_text (Limit SheetBytes 262145)) stop → IsSheetStop looking before name stop
+pub long_sheet : (looking : Looking) (before after : ShelfSeen) (name : List ℕ) (stop : Stop) → IsTooLong before after name SHEET_BYTES → IsDueStop SheetRefused (fault_text (Limit SheetBytes (SHEET_BYTES + 1))) stop → IsSheetStop looking before name stop
 long_sheet looking before after name stop h (inl due) =
-    let o = over before after name 262144 h in
-    subst (IsSheetStop looking before name) (sym due) (refl, record { bytes = o.bytes; stand = o.stand; refused = by_fault (Limit SheetBytes 262145) (of_reading (IsFirstFault.too_long o.over)) refl })
+    let o = over before after name SHEET_BYTES h in
+    subst (IsSheetStop looking before name) (sym due) (refl, record { bytes = o.bytes; stand = o.stand; refused = by_fault (Limit SheetBytes (SHEET_BYTES + 1)) (of_reading (IsFirstFault.too_long o.over)) refl })
 long_sheet looking before after name stop h (inr spent) = subst (IsSheetStop looking before name) (sym spent) tt
 
 -- an input that is too long stops the command

@@ -1,22 +1,21 @@
 -- What is due is one thing, and it comes wherever nothing fails.
-use Rattle.std.proofs.Common.{◌≡◌, ◌≢◌, ℕ, suc, ◌+◌, ◌<◌, ◌≤◌, ◌⊎◌, inl, inr, ⊎_elim, List, [], ◌∷◌, ◌++◌, length, take, Option, Some, None, IsSome, IsSomeAnd, IsTrue, IfSome, true, false, All, get_or, slice_get, length-take, length-append, refl, sym, ap, subst, ◌∙◌, arith, append-nil}
+use Rattle.std.proofs.Common.{◌≡◌, ◌≢◌, ℕ, ◌+◌, ◌<◌, ◌≤◌, ◌⊎◌, inl, inr, ⊎_elim, List, [], ◌∷◌, ◌++◌, length, take, Option, Some, None, IsSome, IsSomeAnd, IsTrue, IfSome, true, get_or, length-take, length-append, refl, sym, ap, subst, ◌∙◌, arith, append-nil}
 use Rattle.std.specs.Io.KnownBytes.{Appends}
 use Rattle.std.proofs.lemmas.Bool.{false≢true}
 use Rattle.std.proofs.lemmas.Option.{slice_get_within, slice_get-get_or}
-use Rattle.lr_base.specs.Outside.{ShelfSeen, SinkSeen, Rose, Takes, Fails, is_listed}
-use Rattle.lr_base.specs.Reading.{StandsUnder}
+use Rattle.lr_base.specs.Outside.{ShelfSeen, SinkSeen, Fails, is_listed}
 use Rattle.sheet_data.specs.Sheet.{Sheet}
 use Rattle.answer_theory.specs.declared.status.Status.{Status}
-use Rattle.answer_theory.specs.declared.status.Status.TheVariants.{Done, BadWords, SheetRefused, ReadFault, WriteFault, NoMemory, TextTooLong}
+use Rattle.answer_theory.specs.declared.status.Status.TheVariants.{Done, BadWords, ReadFault, WriteFault, TextTooLong}
 use Rattle.answer_theory.specs.declared.task.Task.{Task}
 use Rattle.answer_theory.specs.declared.task.Task.TheVariants.{Tokens, Check, Tables}
-use Rattle.answer_theory.specs.Tasks.{Input, inputs_of, text_input}
+use Rattle.answer_theory.specs.Tasks.{inputs_of}
 use Rattle.answer_theory.specs.Work.{IsWork, tokens_listed, layout_printed, tables_printed}
 use Rattle.answer_theory.specs.Answers.{Answers, sheet_refused, input_too_long, work_done, IsPassed, passed_here, passed_later}
 use Rattle.answer_theory.proofs.AnswerLemmas.{answer_once}
 use Rattle.lrpar_cli.specs.Words.{HasForm, IsBadWords}
-use Rattle.lrpar_cli.specs.Endings.{Outside, AreRead, none_read, one_read, IsDue, IsUnread, IsSpent, before_output, within_output, ComesOut, answered, unread, unwritten, spent, IsSaid, said_whole, said_in_part, IsEnding, with_bad_words, with_task}
-use Rattle.lrpar_cli.specs.Laws.{OneDueLaw, CompleteLaw, ServedLaw, RoomLaw, IsAnswered, bad_words_answered, task_answered, AreServed, Fits, HaveRoom}
+use Rattle.lrpar_cli.specs.Endings.{Outside, AreRead, none_read, one_read, IsDue, IsUnread, answered, unread, unwritten, spent, said_whole, said_in_part, IsEnding, with_bad_words, with_task}
+use Rattle.lrpar_cli.specs.Laws.{OneDueLaw, CompleteLaw, ServedLaw, RoomLaw, bad_words_answered, task_answered, AreServed, Fits}
 use Rattle.lrpar_cli.proofs.WordLemmas.{form_once}
 
 same_standing : (stood : Option (List ℕ)) (one other : List ℕ) → IsSome stood → IfSome stood (λ standing. one ≡ standing) → IfSome stood (λ standing. other ≡ standing) → one ≡ other

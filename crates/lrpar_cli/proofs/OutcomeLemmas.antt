@@ -1,5 +1,5 @@
 -- What comes of the steps of a command.
-use Rattle.std.proofs.Common.{◌≡◌, ◌≢◌, ℕ, zero, suc, ◌≤◌, List, [], ◌∷◌, ◌++◌, length, take, Some, IsSome, IfSome, false, slice_get, Result, Ok, Err, IsErrAnd, refl, sym, ap, subst, ◌∙◌, arith, append_assoc, append-nil, length-append}
+use Rattle.std.proofs.Common.{◌≡◌, ℕ, zero, suc, List, [], ◌∷◌, ◌++◌, length, take, Some, IsSome, IfSome, false, slice_get, Result, Ok, Err, IsErrAnd, refl, sym, ap, subst, ◌∙◌, arith, append_assoc, append-nil, length-append}
 use Rattle.std.proofs.lemmas.Option.{same_Some}
 use Rattle.lr_base.specs.Outside.{ShelfSeen, SinkSeen, IsSameShelf, Takes, Rose, is_listed}
 use Rattle.lr_base.specs.Reading.{StandsUnder}
@@ -8,18 +8,18 @@ use Rattle.program_texts.specs.declared.blocks.WriteFault.{WriteFault}
 use Rattle.program_texts.specs.declared.blocks.WriteFault.TheVariants.{Failed, NoMemory}
 use Rattle.sheet_data.specs.Sheet.{Sheet}
 use Rattle.answer_theory.specs.declared.status.Status.{Status}
-use Rattle.answer_theory.specs.declared.status.Status.TheVariants.{Done, SheetRefused, TextTooLong}
+use Rattle.answer_theory.specs.declared.status.Status.TheVariants.{Done}
 use Rattle.answer_theory.specs.declared.task.Task.{Task}
 use Rattle.answer_theory.specs.declared.task.Task.TheVariants.{Tokens}
 use Rattle.answer_theory.specs.Tasks.{looking, for_scanning, inputs_of, text_input}
 use Rattle.answer_theory.specs.Work.{IsListOf, IsWork, tokens_listed}
 use Rattle.answer_theory.specs.Sheets.{IsAccepted}
-use Rattle.answer_theory.specs.Answers.{AreWithin, none_left, one_within, Answers, sheet_refused, input_too_long, work_done, IsPassed, passed_here}
+use Rattle.answer_theory.specs.Answers.{AreWithin, none_left, one_within, Answers, sheet_refused, input_too_long, work_done, passed_here}
 use Rattle.answer_theory.proofs.SheetLemmas.{not_refused}
 use Rattle.lrpar_cli.specs.declared.stop.Stop.{Stop}
 use Rattle.lrpar_cli.specs.declared.stop.Stop.TheVariants.{Due, Unread, Unwritten, Spent}
-use Rattle.lrpar_cli.specs.Endings.{AreRead, none_read, one_read, HasRead, IsDue, IsPending, IsUnread, before_output, within_output, ComesOut, answered, unread, unwritten, spent}
-use Rattle.lrpar_cli.specs.Inputs.{ReadsName, HasSheet, HasRefusal, IsSheetStop, HasInput, HasLongInput, IsInputStop}
+use Rattle.lrpar_cli.specs.Endings.{AreRead, none_read, one_read, HasRead, IsDue, IsPending, before_output, within_output, ComesOut, answered, unread, unwritten, spent}
+use Rattle.lrpar_cli.specs.Inputs.{ReadsName, HasSheet, IsSheetStop, HasInput, IsInputStop}
 use Rattle.lrpar_cli.specs.Stops.{StopsEarly, said_of, status_of, writing_stop}
 
 take_next : {A : Type 0} (xs : List A) (k : ℕ) (x : A) → slice_get xs k ≡ Some x → take (suc k) xs ≡ take k xs ++ x ∷ []

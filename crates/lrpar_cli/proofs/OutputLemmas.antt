@@ -1,5 +1,5 @@
 -- How the writing of an output comes out.
-use Rattle.std.proofs.Common.{◌≡◌, ℕ, List, [], Result, Ok, Err, IsErrAnd, refl, sym, subst, ◌∙◌}
+use Rattle.std.proofs.Common.{◌≡◌, ℕ, List, [], Result, Ok, Err, IsErrAnd, refl, sym, subst}
 use Rattle.std.proofs.KnownBytes.{Appends-nil}
 use Rattle.lr_base.specs.Outside.{SinkSeen, Takes}
 use Rattle.grammar_data.specs.declared.token.Token.{Token}
@@ -7,7 +7,7 @@ use Rattle.scanning_theory.specs.Lines.{line_starts}
 use Rattle.sheet_data.specs.Sheet.{Sheet}
 use Rattle.sheet_theory.specs.Names.{token_names}
 use Rattle.sheet_theory.specs.TokenList.{token_list, listed_tokens}
-use Rattle.program_texts.specs.Writing.{IsCut, nothing_taken, front_taken, IsWritten, all_taken, part_taken, cut}
+use Rattle.program_texts.specs.Writing.{nothing_taken, front_taken, IsWritten, all_taken, part_taken, cut}
 use Rattle.program_texts.specs.declared.blocks.WriteFault.{WriteFault}
 use Rattle.program_texts.specs.declared.blocks.WriteFault.TheVariants.{NoMemory}
 

@@ -1,9 +1,8 @@
 -- The form that words are of: one at most.
-use Rattle.std.proofs.Common.{◌≡◌, ◌≢◌, ℕ, suc, List, [], ◌∷◌, length, get_or, map, All, refl, sym, ap, subst, ◌∙◌, arith}
+use Rattle.std.proofs.Common.{◌≡◌, ℕ, List, [], ◌∷◌, get_or, map, All, refl, ap, arith}
 use Rattle.std.proofs.lemmas.List.Elements.{All-nil, All-cons, All-head, All-tail, All-map}
 use Rattle.answer_theory.specs.declared.task.Task.{Task}
 use Rattle.answer_theory.specs.declared.task.Task.TheVariants.{Tokens, Check, Tables}
-use Rattle.answer_theory.specs.Tasks.{inputs_of}
 use Rattle.lrpar_cli.specs.Words.{word_of, HasForm}
 
 -- the second letter of a word

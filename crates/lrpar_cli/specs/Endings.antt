@@ -1,8 +1,7 @@
 -- How a call of the program may end, over a shelf and two sinks of which this is known before and after it.
-use Rattle.std.specs.Prelude.{◌≡◌, ◌≢◌, ℕ, suc, ◌≤◌, false, List, [], ◌∷◌, ◌++◌, length, take, Some, slice_get, codes}
+use Rattle.std.specs.Prelude.{◌≡◌, ℕ, suc, ◌≤◌, false, List, [], ◌∷◌, ◌++◌, length, take, Some, slice_get, codes}
 use Rattle.lr_base.specs.Outside.{ShelfSeen, SinkSeen, IsSameShelf, IsSameSink, Takes, Fails, Rose, is_listed}
 use Rattle.lr_base.specs.Reading.{StandsUnder}
-use Rattle.program_texts.specs.Writing.{IsCut}
 use Rattle.answer_theory.specs.declared.status.Status.{Status}
 use Rattle.answer_theory.specs.declared.status.Status.TheVariants.{BadWords, ReadFault, WriteFault, NoMemory}
 use Rattle.answer_theory.specs.declared.task.Task.{Task}

@@ -1,4 +1,4 @@
-ghost use Rattle.std.specs.Prelude.{◌≡◌, ◌≢◌, ◌≤◌, length, IfErr, IfOk};
+ghost use Rattle.std.specs.Prelude.{◌≡◌, ◌≢◌, ◌+◌, ◌≤◌, length, IfErr, IfOk};
 ghost use Rattle.lr_base.specs.Outside.{IsSameShelf};
 ghost use Rattle.lr_base.specs.declared.limits.TheConstants.{SHEET_BYTES as most_sheet_bytes};
 ghost use Rattle.outline_data.specs.declared.fault.LimitKind.TheVariants.{SheetBytes};
@@ -83,7 +83,7 @@ fn scan(alloc: Global, bytes: &[u8]) -> Result<Scanned, Stop>
 
 /// The refusal of a sheet with too many bytes.
 fn long_sheet(alloc: Global) -> Stop
-    ensures { IsDueStop Status.SheetRefused (text_of_fault (Limit SheetBytes 262145)) result }
+    ensures { IsDueStop Status.SheetRefused (text_of_fault (Limit SheetBytes (most_sheet_bytes + 1))) result }
 {
     let fault = SheetFault::Limit(LimitKind::SheetBytes, SHEET_BYTES as u64 + 1);
     refusal(alloc, fault)

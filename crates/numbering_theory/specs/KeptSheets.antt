@@ -1,5 +1,6 @@
 -- The sheet that an outline says where some declarations are kept: its limits, and what they leave of it.
 use Rattle.std.specs.Prelude.{◌≡◌, ◌≢◌, ℕ, ◌+◌, ◌≤◌, List, [], length, map, sum_by, All, Contains, Some, None}
+use Rattle.lr_base.specs.declared.limits.TheConstants.{SIDE_SYMBOLS, TOKENS}
 use Rattle.outline_data.specs.declared.fault.SheetFault.{SheetFault}
 use Rattle.outline_data.specs.declared.fault.SheetFault.TheVariants.{BadByte, Syntax, BadPattern, PatternMatchesEmpty, Redeclared, UnknownSymbol, NoRules, PlaceOutOfRange, PlaceTwice, NotAToken, Limit, NoMemory}
 use Rattle.outline_data.specs.Parts.{OutlineParts}
@@ -67,11 +68,11 @@ IsOrdinaryDecl (Skip pattern) = ¬ (Matches pattern [])
 
 -- each right side has at most 20 symbols
 abbrev pub AreShort : GroupParts → Type 0
-AreShort g = All (λ (a : AlternativeParts). length a.right ≤ 20) g.alternatives
+AreShort g = All (λ (a : AlternativeParts). length a.right ≤ SIDE_SYMBOLS) g.alternatives
 
 -- what the limits and the want of faults leave of literals, patterns and right sides
 pub record IsOrdinary (o : OutlineParts) (decls : List Decl) : Type 0 where
-  pub tokens : length (token_words o) + length (unnamed_literals o) ≤ 250
+  pub tokens : length (token_words o) + length (unnamed_literals o) ≤ TOKENS
   pub skips : sum_by skips_in decls ≤ 50
   pub positions : sum_by positions_in decls + sum_by length (unnamed_literals o) ≤ POSITIONS
   pub kept : All IsOrdinaryDecl decls

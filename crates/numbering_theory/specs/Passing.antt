@@ -1,5 +1,6 @@
 -- Limits that are passed.
 use Rattle.std.specs.Prelude.{◌≡◌, ℕ, ◌+◌, ◌⊎◌, List, [], ◌∷◌, ◌++◌, length, sum_by, Some, None, Result, MatchResult}
+use Rattle.lr_base.specs.declared.limits.TheConstants.{TOKENS, SKIPS, NAMES, RULES, SIDE_SYMBOLS, SYMBOLS}
 use Rattle.grammar_data.specs.Grammar.{Rule}
 use Rattle.lr_base.specs.IsGrammar.{symbols_of}
 use Rattle.scanning_theory.specs.declared.limits.TheConstants.{POSITIONS}
@@ -28,11 +29,11 @@ Keeps measures result = MatchResult result (λ _. first_passed measures ≡ None
 -- the quantities of words and skip patterns, those of rules, and the positions
 abbrev pub word_measures : WordLists → List Decl → List Measure
 word_measures lists decls =
-    record { kind = Tokens; count = length lists.literals; most = 250 } ∷ record { kind = Skips; count = sum_by skips_in decls; most = 50 } ∷ record { kind = Names; count = length lists.names; most = 500 } ∷ []
+    record { kind = Tokens; count = length lists.literals; most = TOKENS } ∷ record { kind = Skips; count = sum_by skips_in decls; most = SKIPS } ∷ record { kind = Names; count = length lists.names; most = NAMES } ∷ []
 
 abbrev pub rule_measures : List Rule → List Measure
 rule_measures rules =
-    record { kind = Rules; count = length rules; most = 1000 } ∷ record { kind = RightSide; count = long_side rules; most = 20 } ∷ record { kind = Symbols; count = symbols_of rules; most = 4000 } ∷ []
+    record { kind = Rules; count = length rules; most = RULES } ∷ record { kind = RightSide; count = long_side rules; most = SIDE_SYMBOLS } ∷ record { kind = Symbols; count = symbols_of rules; most = SYMBOLS } ∷ []
 
 abbrev pub position_measures : WordLists → List Decl → List Measure
 position_measures lists decls =

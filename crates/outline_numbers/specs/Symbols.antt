@@ -1,5 +1,6 @@
 -- The numbers of symbols, by the words that have numbers.
 use Rattle.std.specs.Prelude.{ℕ, ◌≤◌, length}
+use Rattle.lr_base.specs.declared.limits.TheConstants.{TOKENS, NAMES}
 use Rattle.outline_theory.specs.Numbering.{WordLists}
 use Rattle.outline_numbers.specs.declared.numbers.Numbers.{Numbers}
 use Rattle.outline_numbers.specs.Vocabularies.{IsVocabulary, words_of}
@@ -15,6 +16,6 @@ pub record AreVocabularies (numbers : Numbers) : Type 0 where
 -- vocabularies within the limits
 pub record AreNumbers (numbers : Numbers) : Type 0 where
   pub vocabularies : AreVocabularies numbers
-  pub few_tokens : length (words_of numbers.tokens) ≤ 250
-  pub few_literals : length (words_of numbers.literals) ≤ 250
-  pub few_names : length (words_of numbers.names) ≤ 500
+  pub few_tokens : length (words_of numbers.tokens) ≤ TOKENS
+  pub few_literals : length (words_of numbers.literals) ≤ TOKENS
+  pub few_names : length (words_of numbers.names) ≤ NAMES

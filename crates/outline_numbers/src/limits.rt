@@ -7,29 +7,11 @@ ghost use Rattle.outline_theory.specs.Limits.{long_side, skips_in, positions_in}
 ghost use Rattle.numbering_theory.specs.Passing.{Keeps, one_measure, word_measures, rule_measures, position_measures};
 
 use crate::numbers::Numbers;
-use lr_base::Rule;
+use lr_base::{NAMES, RULES, Rule, SIDE_SYMBOLS, SKIPS, SYMBOLS, TOKENS};
 use outline_data::{LimitKind, SheetFault};
 use position_sets::count_positions;
 use scanning_theory::POSITIONS;
 use sheet_data::Decl;
-
-/// The most declared tokens and unnamed literals together.
-const TOKENS: usize = 250;
-
-/// The most skip patterns.
-const SKIPS: usize = 50;
-
-/// The most names of the grammar.
-const NAMES: usize = 500;
-
-/// The most rules.
-const RULES: usize = 1_000;
-
-/// The most symbols of one right side.
-const SIDE_SYMBOLS: usize = 20;
-
-/// The most symbols of all right sides together.
-const SYMBOLS: usize = 4_000;
 
 /// Looks at one quantity.
 fn within(kind: LimitKind, count: usize, most: usize) -> Result<(), SheetFault>

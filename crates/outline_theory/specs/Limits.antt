@@ -1,5 +1,6 @@
 -- The limits of a sheet, in the order in which they are looked at.
 use Rattle.std.specs.Prelude.{ℕ, ◌+◌, nat_lt, if◌then◌else◌, List, [], ◌∷◌, length, sum_by, Option, None, Some}
+use Rattle.lr_base.specs.declared.limits.TheConstants.{TOKENS, SKIPS, NAMES, RULES, SIDE_SYMBOLS, SYMBOLS}
 use Rattle.grammar_data.specs.Grammar.{Rule}
 use Rattle.pattern_data.specs.Language.{positions_of}
 use Rattle.scanning_theory.specs.declared.limits.TheConstants.{POSITIONS}
@@ -26,19 +27,19 @@ positions_in (Literal name bytes) = length bytes
 positions_in (Matched name pattern) = positions_of pattern
 positions_in (Skip pattern) = positions_of pattern
 
--- the length of the first right side that is longer than 20 symbols; 0 where none is
+-- the length of the first right side that is too long; 0 where none is
 abbrev pub long_side : List Rule → ℕ
 long_side [] = 0
-long_side (rule ∷ rules) = if nat_lt 20 (length rule.1) then length rule.1 else long_side rules
+long_side (rule ∷ rules) = if nat_lt SIDE_SYMBOLS (length rule.1) then length rule.1 else long_side rules
 
 abbrev pub measures : Sheet → List Measure
 measures sheet =
-    record { kind = Tokens; count = sheet.grammar.tokens; most = 250 }
-    ∷ record { kind = Skips; count = sum_by skips_in sheet.decls; most = 50 }
-    ∷ record { kind = Names; count = sheet.grammar.names; most = 500 }
-    ∷ record { kind = Rules; count = length sheet.grammar.rules; most = 1000 }
-    ∷ record { kind = RightSide; count = long_side sheet.grammar.rules; most = 20 }
-    ∷ record { kind = Symbols; count = sum_by (λ (rule : Rule). length rule.1) sheet.grammar.rules; most = 4000 }
+    record { kind = Tokens; count = sheet.grammar.tokens; most = TOKENS }
+    ∷ record { kind = Skips; count = sum_by skips_in sheet.decls; most = SKIPS }
+    ∷ record { kind = Names; count = sheet.grammar.names; most = NAMES }
+    ∷ record { kind = Rules; count = length sheet.grammar.rules; most = RULES }
+    ∷ record { kind = RightSide; count = long_side sheet.grammar.rules; most = SIDE_SYMBOLS }
+    ∷ record { kind = Symbols; count = sum_by (λ (rule : Rule). length rule.1) sheet.grammar.rules; most = SYMBOLS }
     ∷ record { kind = Positions; count = sum_by positions_in sheet.decls + sum_by length sheet.literals; most = POSITIONS }
     ∷ []
 

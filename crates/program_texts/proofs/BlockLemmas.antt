@@ -1,5 +1,5 @@
 -- A text that is written in blocks.
-use Rattle.std.proofs.Common.{◌≡◌, refl, Result, Ok, Err, IsErrAnd, ℕ, suc, ◌+◌, ◌<◌, ◌≤◌, List, [], ◌∷◌, ◌++◌, length, take, drop, get_or, Option, Some, None, IfSome, sym, ap, ◌∙◌, subst, arith, append_assoc, append-nil, length-append}
+use Rattle.std.proofs.Common.{◌≡◌, refl, Result, Ok, Err, IsErrAnd, ℕ, suc, ◌+◌, ◌<◌, ◌≤◌, List, [], ◌∷◌, ◌++◌, length, take, drop, get_or, Option, sym, ap, ◌∙◌, subst, arith, append_assoc, append-nil, length-append}
 use Rattle.std.specs.List.{flat_map}
 use Rattle.std.specs.Io.KnownBytes.{Appends}
 use Rattle.std.proofs.KnownBytes.{Appends-nil, Appends-trans}
@@ -7,8 +7,8 @@ use Rattle.std.proofs.lemmas.List.{take-append-drop, take_more, take-append-le, 
 use Rattle.std.proofs.Math.Seq.{take-append-add, drop-cons}
 use Rattle.std.proofs.lemmas.List.Concat.{flat_map-append}
 use Rattle.lr_base.specs.Outside.{SinkSeen, Rose, AppendsPart, Takes, Fails}
-use Rattle.program_texts.specs.Writing.{Passes, IsWritten, all_taken, part_taken, cut, front_taken}
-use Rattle.program_texts.specs.declared.blocks.WriteFault.TheVariants.{Failed, NoMemory}
+use Rattle.program_texts.specs.Writing.{Passes, IsWritten, cut, front_taken}
+use Rattle.program_texts.specs.declared.blocks.WriteFault.TheVariants.{NoMemory}
 
 -- nothing was written yet
 pub takes_nothing : (a : SinkSeen) → Takes a a []

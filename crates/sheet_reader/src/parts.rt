@@ -2,6 +2,7 @@
 ghost use Rattle.std.specs.Prelude.{◌≡◌, ◌≤◌, ◌++◌, [], ◌∷◌, length, map, All, IfOk, OnOk};
 ghost use Rattle.std.specs.List.{range_with_len, flat_map};
 ghost use Rattle.std.specs.Option.{option_map};
+ghost use Rattle.lr_base.specs.declared.limits.TheConstants.{SIDE_SYMBOLS};
 ghost use Rattle.pattern_data.specs.Spellings.{IsSpelling};
 ghost use Rattle.sheet_data.specs.declared.parts.Part.TheVariants.{Fold};
 ghost use Rattle.outline_data.specs.GroupParts.{GroupParts};
@@ -87,7 +88,7 @@ fn written_parts(alloc: Global, written: Vec<TemplatePart>) -> Result<Vec<Part>,
 
 /// The template that gives what each of so many parts gives, in turn.
 fn fold_parts(alloc: Global, count: u32) -> Result<Vec<Part>, NoMemory>
-    requires { count ≤ 20 }
+    requires { count ≤ SIDE_SYMBOLS }
     ensures { IfOk result (λ parts. parts.items ≡ map Fold (range_with_len 1 count)) }
 {
     let parts = (1..count + 1).map(Part::Fold).collect(alloc)?;
@@ -100,7 +101,7 @@ fn template(
     count: usize,
     written: Option<Vec<TemplatePart>>,
 ) -> Result<Vec<Part>, NoMemory>
-    requires { count ≤ 20 }
+    requires { count ≤ SIDE_SYMBOLS }
     ensures { IfOk result (λ parts. parts.items ≡ template_by (option_map (λ t. t.items) written) count) }
 {
     match written {
@@ -140,7 +141,7 @@ impl RuleTexts {
 
     /// Puts one rule's behind the others.
     fn push(&mut self, alloc: Global, alternative: Alternative) -> Result<(), NoMemory>
-        requires { length alternative.right ≤ 20 }
+        requires { length alternative.right ≤ SIDE_SYMBOLS }
         ensures templates { OnOk result (templates_in self.new ≡ templates_in self.old ++ template_of alternative ∷ []) }
         ensures declares { OnOk result (declares_in self.new ≡ declares_in self.old ++ declares_of alternative ∷ []) }
     {

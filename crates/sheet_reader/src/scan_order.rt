@@ -1,5 +1,6 @@
 //! The order in which a sheet's patterns are scanned.
 ghost use Rattle.std.specs.Prelude.{◌≡◌, ◌+◌, ◌≤◌, [], ◌∷◌, ◌++◌, length, All, IfOk, OnOk};
+ghost use Rattle.lr_base.specs.declared.limits.TheConstants.{TOKENS};
 ghost use Rattle.sheet_theory.specs.Names.{declared_names};
 ghost use Rattle.sheet_theory.specs.ScanOrder.{ranked_literal, declared_literals, unnamed_literals, declared_patterns};
 ghost use Rattle.sheet_reader.specs.WellFormed.{IsLiteralText, IsOrdinaryDecl};
@@ -57,7 +58,7 @@ fn push_literal(
 
 /// The number of the next declared token, behind a declaration where the next one has this number.
 fn next_token(token: u32, decl: &Decl) -> u32
-    requires { token + length (declared_names (decl.now ∷ [])) ≤ 250 }
+    requires { token + length (declared_names (decl.now ∷ [])) ≤ TOKENS }
     ensures { result ≡ token + length (declared_names (decl.now ∷ [])) }
 {
     match decl {
@@ -85,7 +86,7 @@ fn rank_literal(
 /// Ranks the declared literals behind the others.
 pub fn rank_literals(ranking: &mut Ranking, alloc: Global, decls: &[Decl]) -> Result<(), NoMemory>
     requires each { All IsOrdinaryDecl decls.now }
-    requires few { length (declared_names decls.now) ≤ 250 }
+    requires few { length (declared_names decls.now) ≤ TOKENS }
     ensures { OnOk result (ranking.new.items ≡ ranking.old.items ++ declared_literals 0 decls.now) }
 {
     let mut token = 0;
@@ -104,7 +105,7 @@ pub fn rank_unnamed(
     literals: &[Bytes],
 ) -> Result<(), NoMemory>
     requires each { All IsLiteralText literals.now }
-    requires few { first + length literals.now ≤ 250 }
+    requires few { first + length literals.now ≤ TOKENS }
     ensures { OnOk result (ranking.new.items ≡ ranking.old.items ++ unnamed_literals first literals.now) }
 {
     let mut token = first;
@@ -141,7 +142,7 @@ fn rank_pattern(
 
 /// Ranks the declared patterns, skips among them, behind the others.
 pub fn rank_patterns(ranking: &mut Ranking, alloc: Global, decls: &[Decl]) -> Result<(), NoMemory>
-    requires { length (declared_names decls.now) ≤ 250 }
+    requires { length (declared_names decls.now) ≤ TOKENS }
     ensures { OnOk result (ranking.new.items ≡ ranking.old.items ++ declared_patterns 0 decls.now) }
 {
     let mut token = 0;

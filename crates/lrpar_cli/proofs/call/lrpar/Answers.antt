@@ -1,4 +1,3 @@
-use Rattle.std.proofs.Common.{inl, inr}
 use Rattle.lrpar_cli.specs.Endings.{with_bad_words, with_task}
 use Rattle.lrpar_cli.proofs.EndLemmas.{reads_nothing, early_stop, ends_silent}
 use Rattle.lrpar_cli.proofs.LawLemmas.{ends_bad}

@@ -1,4 +1,4 @@
-use Rattle.std.proofs.Common.{◌≡◌, refl, sym, ◌∙◌, ◌++◌, [], append-nil, rules, arith}
+use Rattle.std.proofs.Common.{◌≡◌, refl, sym, [], append-nil, rules, arith}
 use Rattle.report_theory.specs.TableTexts.{state_text, states_line, tables_text}
 use Rattle.program_texts.specs.Writing.{IsWritten, all_taken, part_taken, cut, nothing_taken}
 use Rattle.program_texts.specs.declared.blocks.WriteFault.TheVariants.{Failed, NoMemory}
