@@ -1,0 +1,4 @@
+pub mod TreeLemmas
+pub mod LiveLemmas
+pub mod CoverLemmas
+pub mod RunLemmas

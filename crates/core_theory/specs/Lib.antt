@@ -1,0 +1,5 @@
+pub mod Tree
+pub mod Core
+pub mod Events
+pub mod Runs
+pub mod Laws
