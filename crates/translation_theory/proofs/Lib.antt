@@ -1,0 +1,4 @@
+pub mod NameLemmas
+pub mod NotedLemmas
+pub mod DiagnosticLemmas
+pub mod TokenLemmas

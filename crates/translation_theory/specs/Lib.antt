@@ -1,0 +1,5 @@
+pub mod TokenTexts
+pub mod Marks
+pub mod DeclaredNames
+pub mod Translations
+pub mod Diagnostics
