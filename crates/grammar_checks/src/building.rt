@@ -67,7 +67,7 @@ fn collection_of(
     }
 }
 
-/// The canonical collection of a grammar and its tables; or its first fault, in this order: the least name that derives no
+/// The canonical collection of a grammar and its tables, which are lawful; or its first fault, in this order: the least name that derives no
 /// token list, the least that the start doesn't reach, the least whose least empty tree has more than 1,000 inner nodes;
 /// more than 10,000 states; the first conflict.
 pub fn build_grammar(alloc: Global, grammar: &Grammar) -> Result<Built, GrammarFault>

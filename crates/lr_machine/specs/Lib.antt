@@ -1,3 +1,4 @@
 pub mod Cells
 pub mod IsTables
 pub mod Parts
+pub mod Expected

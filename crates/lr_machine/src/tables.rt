@@ -5,6 +5,7 @@ ghost use Rattle.table_data.specs.declared.limits.TheConstants.{MOST_STATES};
 ghost use Rattle.lr_base.specs.IsGrammar.{IsSymbolOf};
 ghost use Rattle.table_data.specs.declared.act.Act.TheVariants.{Error};
 ghost use Rattle.table_data.specs.Tables.{IsActOf, IsGotoOf, act_in, goto_in};
+ghost use Rattle.lr_machine.specs.Expected.{AreExpectedIn};
 ghost use Rattle.lr_machine.specs.IsTables.{AreBlank, IsTables};
 
 use crate::cell::ActCell;
@@ -102,6 +103,22 @@ impl Tables {
         ensures { IsTrue result ↔ (act_in self.now state token ≢ Error) }
     {
         !matches!(self.act(state, token), Act::Error)
+    }
+
+    /// The tokens that a state expects, in the order of their numbers, the end mark last: those on which its action is another
+    /// than an error. They are at most 251.
+    pub fn expected(&self, alloc: Global, state: StateId) -> Result<Vec<TokenId>, NoMemory>
+        requires { state < self.now.states }
+        ensures { IfOk result (λ tokens. AreExpectedIn self.now state tokens.items) }
+    {
+        let mut tokens = Vec::new(alloc);
+        for number in 0..self.tokens + 1 {
+            let token = TokenId(number);
+            if self.expects(state, token) {
+                tokens.push(token)?;
+            }
+        }
+        Ok(tokens)
     }
 
     /// How many states there are; they are numbered from 0.

@@ -1,6 +1,9 @@
 ghost use Rattle.std.specs.Prelude.{IfErr, IfOk};
+ghost use Rattle.grammar_theory.specs.UsefulNames.{AllProductive};
+ghost use Rattle.grammar_theory.specs.UselessNames.{AllReachable};
 ghost use Rattle.item_theory.specs.Items.{HasConflict};
 ghost use Rattle.collection_data.specs.Collection.{IsCollectionOf};
+ghost use Rattle.lawful_theory.specs.Lawful.{IsLawfulFor};
 ghost use Rattle.lr_tables.specs.Building.{AreTablesOf, IsBuildFault};
 
 use crate::clashes::first_clash;
@@ -13,6 +16,7 @@ use std::alloc::Global;
 
 /// The canonical LR(1) tables of a grammar, from its collection: on each token and on the end mark a state shifts,
 /// reduces or accepts exactly as its items do, and else it errs; along each name it goes where the collection steps.
+/// They are lawful where all names are productive and reachable.
 /// `Conflict` exactly where the grammar has one: in the least state, on the least token there, with the least item that
 /// acts on the token, and the least whose action on it is another.
 pub fn build(
@@ -22,6 +26,8 @@ pub fn build(
 ) -> Result<Tables, BuildFault>
     requires { IsCollectionOf grammar.now collection.now }
     ensures tables { IfOk result (λ tables. AreTablesOf grammar.now collection.now tables) }
+    ensures lawful { IfOk result (λ tables. AllProductive grammar.now → AllReachable grammar.now
+        → IsLawfulFor grammar.now tables) }
     ensures free { IfOk result (λ _. HasConflict grammar.now → ⊥) }
     ensures conflict { IfErr result (λ fault. IsBuildFault grammar.now fault) }
 {

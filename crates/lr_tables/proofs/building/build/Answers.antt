@@ -1,14 +1,15 @@
 use Rattle.std.proofs.Common.{◌≡◌, ◌<◌, List, sym, subst, arith}
 use Rattle.collection_data.specs.declared.entry.Entry.{Entry}
 use Rattle.collection_data.specs.Entries.{AreEntries}
-use Rattle.collection_data.specs.Collection.{items_in, state_count}
+use Rattle.collection_data.specs.Collection.{items_in, has_item, state_count, step_in}
 use Rattle.grammar_laws.proofs.RangeLemmas.{in_range}
 use Rattle.lr_machine.specs.IsTables.{AreBlank}
 use Rattle.table_theory.specs.Clashes.{HasClash}
 use Rattle.table_theory.specs.Conflicts.{IsFirstConflict}
 use Rattle.lr_tables.specs.Doings.{HaveItem}
 use Rattle.lr_tables.specs.Clashing.{IsClashOn}
-use Rattle.lr_tables.proofs.RowLemmas.{entries_of, filled_none, filled_more, first_conflict_at, free_of_conflicts}
+use Rattle.lawful_theory.proofs.CanonicalLemmas.{canonical_lawful_law}
+use Rattle.lr_tables.proofs.RowLemmas.{entries_of, filled_none, filled_more, first_conflict_at, tables_filled, free_of_conflicts}
 use Rattle.lr_tables.proofs.building.build.Goals as goal
 
 pub loop-number-init : goal.loop-number-init
@@ -48,3 +49,12 @@ pub returns-clause-free : goal.returns-clause-free
 returns-clause-free c =
     let last : c.loop-number.number ≡ state_count c.args.collection.now = omega (arith, c.loop-number-test.false, c.loop-number.auto.number-end, c.states-number-end.ensures.states) in
     free_of_conflicts c.args.grammar.now c.args.collection.now c.loop-number.number c.loop-number.tables c.loop-number.invariant last
+
+pub returns-clause-lawful : goal.returns-clause-lawful
+returns-clause-lawful c = λ productive reachable.
+    let g = c.args.grammar.now in
+    let now = c.args.collection.now in
+    let filled = c.loop-number.invariant in
+    let last : c.loop-number.number ≡ state_count now = omega (arith, c.loop-number-test.false, c.loop-number.auto.number-end, c.states-number-end.ensures.states) in
+    canonical_lawful_law g filled.setting.range productive reachable (state_count now) (has_item now) (step_in now) c.loop-number.tables c.requires.collection
+    (tables_filled g now c.loop-number.number c.loop-number.tables filled last)
