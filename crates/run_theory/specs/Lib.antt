@@ -1,0 +1,3 @@
+pub mod SheetTokens
+pub mod RunAnswers
+pub mod Laws
