@@ -1,0 +1,4 @@
+pub mod FlatLemmas
+pub mod SlotLemmas
+pub mod ChunkListLemmas
+pub mod StoreLemmas

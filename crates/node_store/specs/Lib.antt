@@ -1,0 +1,4 @@
+pub mod Packing
+pub mod Chunks
+pub mod Flat
+pub mod Slots
