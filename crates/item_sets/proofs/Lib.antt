@@ -8,3 +8,4 @@ pub mod SuccessorLemmas
 pub mod StateFinding
 pub mod StepLemmas
 pub mod SettingLemmas
+pub mod ExpandLemmas

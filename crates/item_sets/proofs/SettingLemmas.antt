@@ -1,11 +1,10 @@
 -- What the table of a grammar is for the search, and its first state.
 use Rattle.std.proofs.Common.{◌≡◌, ℕ, zero, suc, ◌+◌, ◌<◌, ◌≤◌, ◌↔◌, ◌⊎◌, inl, inr, true, false, if◌then◌else◌, IsTrue, List, [], ◌∷◌, length, get_or, slice_get, Option, Some, None, All, refl, sym, ap, subst, ◌∙◌, arith}
-use Rattle.std.specs.Prelude.{◌^◌, ◌-◌, IfSome}
 use Rattle.std.specs.HashMap.{HashMap}
 use Rattle.std.specs.Global.{Vec}
 use Rattle.std.specs.Map.{lookup}
 use Rattle.std.proofs.lemmas.Bool.{or_left, or_cases, false≢true, eq-eqb, eqb-true}
-use Rattle.std.proofs.lemmas.List.{get_or_default, length_push}
+use Rattle.std.proofs.lemmas.List.{get_or_default}
 use Rattle.std.proofs.lemmas.List.Elements.{All-from_get_or, All-cons, All-nil, All-weaker}
 use Rattle.std.proofs.lemmas.Option.{slice_get-get_or, slice_get_within, cond_some, same_Some, none-some}
 use Rattle.std.specs.Cmp.Lexicographic.{same_text}
@@ -26,7 +25,7 @@ use Rattle.item_sets.specs.Closing.{IsSetting}
 use Rattle.item_sets.specs.Layout.{IsClosureOf, IsKernel}
 use Rattle.item_sets.specs.Successors.{key_of, moved_entries, AreSuccessors}
 use Rattle.item_sets.specs.Found.{same_key, state_at}
-use Rattle.item_sets.specs.Searching.{kernel_of, IsStateSet, FindsStates, IsFirstEntry, IsStepFound, IsFoundOrAdded}
+use Rattle.item_sets.specs.Searching.{kernel_of, IsStateSet, FindsStates, IsFirstEntry, IsStepFound, IsStepKernel, IsFoundOrAdded}
 use Rattle.collection_data.specs.Rows.{symbol_at}
 use Rattle.grammar_laws.proofs.RangeLemmas.{in_range, rule_of}
 use Rattle.collection_data.proofs.EntryLemmas.{entry_parts, entry_from, rising_of}
@@ -147,11 +146,14 @@ module _ (g : Grammar) (rows fronts : List (List Spot)) (setting : IsSetting g r
   rules_within = All-weaker (IsEntry g) (λ (e : Entry). e.rule < length rows) (λ e is. let within = slice_get_within (all_rules g) e.rule (is.name, is.right) is.rule.found in omega (arith, setting.table.spots.count)) set are.each
 
   module _ (c : ℕ) (less : c < g.tokens + g.names) (kernel : List Entry) (is : kernel ≡ moved_entries rows c set) where
-    pub kernel_here : IsKernel g kernel
+    kernel_here : IsKernel g kernel
     kernel_here = subst (λ (k : List Entry). IsKernel g k) (sym is) (kernel_is g rows fronts setting (symbol_at g c) c (column_at g c less) set are)
 
-    pub dots_here : All (λ (e : Entry). 0 < e.dot) kernel
-    dots_here = subst (λ (k : List Entry). All (λ (e : Entry). 0 < e.dot) k) (sym is) (kernel_dots g rows fronts setting (symbol_at g c) c (column_at g c less) set)
+    pub step_kernel : IsStepKernel g kernel
+    step_kernel = record {
+      is = kernel_here;
+      moved = subst (λ (k : List Entry). All (λ (e : Entry). 0 < e.dot) k) (sym is) (kernel_dots g rows fronts setting (symbol_at g c) c (column_at g c less) set);
+    }
 
 pub kernel_at : (rows : List (List Spot)) (width : ℕ) (set : List Entry) (kernels : List (List Entry)) → AreSuccessors rows width set kernels → (c : ℕ) → c < length kernels → (kernel : List Entry) → kernel ≡ get_or kernels c kernel → kernel ≡ moved_entries rows c set
 kernel_at rows width set kernels are c less kernel is = is ∙ get_or_default kernels c kernel [] less ∙ are.each c (let size = are.count in omega arith)
@@ -164,12 +166,3 @@ step_keeps g kernel old new (Some p) h q es at = cases h.1
     cases : IsFoundOrAdded g kernel old new p → slice_get new q ≡ Some es
     cases (inl found) = subst (λ (s : List (List Entry)). slice_get s q ≡ Some es) (sym found.1) at
     cases (inr added) = subst (λ (s : List (List Entry)). slice_get s q ≡ Some es) (sym added.1.2) (kept_get old (added.1.0 ∷ []) q es at)
-
--- the step leads to one of the states, which are at most 10,000
-pub step_below : (g : Grammar) (kernel : List Entry) (old new : List (List Entry)) (o : Option ℕ) → IsStepFound g kernel old new o → length new ≤ 10000 → IfSome o (λ p. p < 2 ^ 32 - 1)
-step_below g kernel old new None h few = tt
-step_below g kernel old new (Some p) h few = cases h.1
-  where
-    cases : IsFoundOrAdded g kernel old new p → p < 2 ^ 32 - 1
-    cases (inl (has, same)) = let less = slice_get_within old p has.0 has.1 in let size = ap length same in omega arith
-    cases (inr (fresh, (entries, closed, put, last))) = let size = ap length put ∙ length_push old entries in omega arith

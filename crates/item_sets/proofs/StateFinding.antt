@@ -1,9 +1,11 @@
 -- States are found by the keys of their kernels.
-use Rattle.std.proofs.Common.{◌≡◌, ℕ, zero, suc, ◌<◌, ◌↔◌, ◌⊎◌, inl, inr, true, false, if◌then◌else◌, IsTrue, List, [], ◌∷◌, ◌++◌, length, slice_get, Some, None, All, refl, sym, ap, subst, ◌∙◌}
+use Rattle.std.proofs.Common.{◌≡◌, ℕ, zero, suc, ◌<◌, ◌↔◌, ◌⊎◌, inl, inr, true, false, if◌then◌else◌, IsTrue, List, [], ◌∷◌, ◌++◌, length, slice_get, Some, None, All, refl, sym, ap, subst, ◌∙◌, arith}
 use Rattle.std.specs.Cmp.Lexicographic.{same_text}
 use Rattle.std.specs.HashMap.{HashMap}
 use Rattle.std.specs.Global.{Vec}
+use Rattle.std.specs.Map.{lookup}
 use Rattle.std.proofs.lemmas.Bool.{and_from, eq-eqb, false≢true, cases_Bool}
+use Rattle.std.proofs.lemmas.List.{length_push}
 use Rattle.std.proofs.lemmas.List.Elements.{All-weaker, All-push, All-get_or}
 use Rattle.std.proofs.lemmas.Option.{slice_get_within, get_or_from_slice_get, same_Some, none-some}
 use Rattle.grammar_data.specs.Grammar.{Grammar}
@@ -12,10 +14,12 @@ use Rattle.grammar_data.specs.TokenSet.{IsTokenSet}
 use Rattle.item_theory.specs.Chains.{Closure}
 use Rattle.collection_data.specs.declared.entry.Entry.{Entry}
 use Rattle.collection_data.specs.Entries.{entries_have, IsEntry, AreEntries}
+use Rattle.table_data.specs.declared.limits.TheConstants.{MOST_STATES}
+use Rattle.item_sets.specs.declared.spot.Spot.{Spot}
 use Rattle.item_sets.specs.Layout.{IsClosureOf}
 use Rattle.item_sets.specs.Successors.{key_of}
 use Rattle.item_sets.specs.Found.{same_key, state_at}
-use Rattle.item_sets.specs.Searching.{kernel_of, IsStateSet, HasKernel, FindsStates, IsNewKernel}
+use Rattle.item_sets.specs.Searching.{kernel_of, AreFoundSoFar, IsStateSet, IsStepKernel, HasKernel, FindsStates, IsNewKernel}
 use Rattle.item_sets.proofs.KernelLemmas.{same_from_key, kernel_entries, kernel_of_closure}
 
 abbrev pub AreSets : List Entry → Type 0
@@ -88,3 +92,26 @@ module _ (g : Grammar) {S : Type 0} (found : HashMap (Vec ℕ) ℕ S) (states : 
         λ at. finds_to other q (cases_Bool (same_key key.items other.items)) at,
         λ h. finds_from other q h.0 h.2 (cases_Bool (same_key key.items other.items)) (slice_get_cases states entries h.0 q h.1),
       )
+
+-- ---- the states found so far
+
+-- a map with the same entries finds the same states
+pub found_same : (g : Grammar) (rows fronts : List (List Spot)) (sets : List (List Entry)) {S : Type 0} (found new : HashMap (Vec ℕ) ℕ S) → AreFoundSoFar g rows fronts sets found → new.entries ≡ found.entries
+    → AreFoundSoFar g rows fronts sets new
+found_same g rows fronts sets found new are same = record {
+  setting = are.setting;
+  few = are.few;
+  each = are.each;
+  finds = λ key q. subst (λ (es : List (Vec ℕ × ℕ)). (lookup (λ (k : Vec ℕ). same_key key.items k.items) es ≡ Some q) ↔ ((entries : List Entry) × (slice_get sets q ≡ Some entries) × (key.items ≡ key_of (kernel_of entries)))) (sym same) (are.finds key q);
+}
+
+-- with the closure of a new kernel put last
+pub found_pushed : (g : Grammar) (rows fronts : List (List Spot)) (sets : List (List Entry)) {S : Type 0} (found new : HashMap (Vec ℕ) ℕ S) → AreFoundSoFar g rows fronts sets found → length sets < MOST_STATES
+    → (kernel : List Entry) → IsStepKernel g kernel → (key : Vec ℕ) → key.items ≡ key_of kernel → IsNewKernel sets kernel → (entries : List Entry) → IsClosureOf g kernel entries
+    → ((other : Vec ℕ) → state_at new other.items ≡ (if same_key key.items other.items then Some (length sets) else state_at found other.items)) → AreFoundSoFar g rows fronts (sets ++ entries ∷ []) new
+found_pushed g rows fronts sets found new are less kernel is key is_key fresh entries closure noted = record {
+  setting = are.setting;
+  few = (let size = length_push sets entries in omega arith);
+  each = sets_pushed g found sets are.each are.finds kernel is.is.entries key is_key fresh is.moved entries closure;
+  finds = finds_pushed g found sets are.each are.finds kernel is.is.entries key is_key fresh is.moved entries closure new noted;
+}

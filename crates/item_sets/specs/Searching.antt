@@ -1,5 +1,5 @@
 -- The search of the states: what is known of the states and the steps while the search stands at a state and a column.
-use Rattle.std.specs.Prelude.{◌≡◌, ◌≢◌, ℕ, ◌+◌, ◌*◌, ◌<◌, ◌↔◌, ◌⊎◌, ◌==◌, nat_lt, IsTrue, List, [], ◌∷◌, ◌++◌, length, slice_get, Option, Some, None}
+use Rattle.std.specs.Prelude.{◌≡◌, ◌≢◌, ℕ, ◌+◌, ◌*◌, ◌<◌, ◌≤◌, ◌↔◌, ◌⊎◌, ◌==◌, nat_lt, IsTrue, List, [], ◌∷◌, ◌++◌, length, slice_get, All, Option, Some, None}
 use Rattle.std.specs.List.{filter}
 use Rattle.std.specs.HashMap.{HashMap}
 use Rattle.std.specs.Global.{Vec}
@@ -12,8 +12,11 @@ use Rattle.item_theory.specs.Search.{IsSearchedTo}
 use Rattle.collection_data.specs.declared.entry.Entry.{Entry}
 use Rattle.collection_data.specs.Entries.{entries_have, AreEntries}
 use Rattle.collection_data.specs.Rows.{symbol_at, AreRowsOf, AreAllRowsOf}
-use Rattle.item_sets.specs.Layout.{IsClosureOf}
-use Rattle.item_sets.specs.Successors.{key_of}
+use Rattle.table_data.specs.declared.limits.TheConstants.{MOST_STATES}
+use Rattle.item_sets.specs.declared.spot.Spot.{Spot}
+use Rattle.item_sets.specs.Closing.{IsSetting}
+use Rattle.item_sets.specs.Layout.{IsClosureOf, IsKernel}
+use Rattle.item_sets.specs.Successors.{key_of, AreSuccessors}
 use Rattle.item_sets.specs.Found.{state_at}
 
 -- the kernel of a state: the entries with the dot behind a symbol; that of state 0 is empty
@@ -45,6 +48,31 @@ IsFoundOrAdded g kernel old new q = (HasKernel old kernel q × (new ≡ old)) �
 abbrev pub IsStepFound : Grammar → List Entry → List (List Entry) → List (List Entry) → Option ℕ → Type 0
 IsStepFound g kernel old new None = (kernel ≡ []) × (new ≡ old)
 IsStepFound g kernel old new (Some q) = (kernel ≢ []) × IsFoundOrAdded g kernel old new q
+
+-- a kernel whose entries all have the dot behind a symbol
+pub record IsStepKernel (g : Grammar) (kernel : List Entry) : Type 0 where
+  pub is : IsKernel g kernel
+  pub moved : All (λ (e : Entry). 0 < e.dot) kernel
+
+-- the kernels of the successors of some entries, column by column, by a table of the grammar
+pub record AreKernelsOf (g : Grammar) (entries : List Entry) (kernels : List (List Entry)) : Type 0 where
+  pub rows : List (List Spot)
+  pub fronts : List (List Spot)
+  pub setting : IsSetting g rows fronts
+  pub successors : AreSuccessors rows (g.tokens + g.names) entries kernels
+
+-- a grammar, and the entries of the states of its collection that are found so far
+pub record FoundStates : Type 0 where
+  pub grammar : Grammar
+  pub states : List (List Entry)
+
+-- the table is one of the grammar; no more states are found than there may be, each is a closed set of entries, and the
+-- map finds them by their kernels
+pub record AreFoundSoFar {S : Type 0} (g : Grammar) (rows fronts : List (List Spot)) (sets : List (List Entry)) (found : HashMap (Vec ℕ) ℕ S) : Type 0 where
+  pub setting : IsSetting g rows fronts
+  pub few : length sets ≤ MOST_STATES
+  pub each : All (IsStateSet g) sets
+  pub finds : FindsStates found sets
 
 -- the search stands at a state and a column
 pub record IsSearchAt (g : Grammar) (states : List (List Entry)) (steps : List (Option ℕ)) (p column : ℕ) : Type 0 where

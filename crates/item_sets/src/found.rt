@@ -1,4 +1,4 @@
-ghost use Rattle.std.specs.Prelude.{◌≡◌, ℕ, List, if◌then◌else◌, All, IfOk, Some};
+ghost use Rattle.std.specs.Prelude.{◌≡◌, ℕ, List, if◌then◌else◌, All, IfOk, OnErr, Some};
 ghost use Rattle.std.specs.Global.{Vec as Keys};
 ghost use Rattle.grammar_data.specs.TokenSet.{IsTokenSet};
 ghost use Rattle.collection_data.specs.declared.entry.Entry.{Entry as Lookaheads};
@@ -32,14 +32,15 @@ pub fn find(found: &HashMap<Vec<u64>, StateId>, key: &Vec<u64>) -> Option<StateI
     found.get(key).copied()
 }
 
-/// Notes the state with the key.
+/// Notes the state with the key. After want of memory the map has what it had.
 pub fn note(
     found: &mut HashMap<Vec<u64>, StateId>,
     key: Vec<u64>,
     state: StateId,
 ) -> Result<(), AllocError>
-    ensures { IfOk result (λ _. (other : Keys ℕ) → state_at found.new other.items
+    ensures noted { IfOk result (λ _. (other : Keys ℕ) → state_at found.new other.items
         ≡ (if same_key key.items other.items then Some state else state_at found.old other.items)) }
+    ensures kept { OnErr result (found.new.entries ≡ found.old.entries) }
 {
     found.insert(key, state)?;
     Ok(())

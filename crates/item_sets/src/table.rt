@@ -3,7 +3,6 @@ ghost use Rattle.grammar_data.specs.declared.rule.Sym.{Sym as Symbol};
 ghost use Rattle.grammar_data.specs.declared.rule.Sym.TheVariants.{Name};
 ghost use Rattle.grammar_theory.specs.Rules.{IsRule};
 ghost use Rattle.grammar_theory.specs.UsefulNames.{AllProductive};
-ghost use Rattle.lr_base.specs.IsGrammar.{IsGrammar};
 ghost use Rattle.first_sets.specs.NameFacts.{AreFirsts};
 ghost use Rattle.item_sets.specs.Spots.{AreFronts, AreRuleSpots, IsSpotAt};
 ghost use Rattle.item_sets.specs.Closing.{IsSetting};
@@ -23,8 +22,7 @@ pub struct Table {
 /// The spots of all rules.
 fn rows_of(alloc: Global, grammar: &Grammar, firsts: &Firsts) -> Result<Vec<Spots>, AllocError>
     requires facts { AreFirsts grammar.now firsts.now }
-    ensures rows { IfOk result (λ rows. AreRuleSpots grammar.now rows.items) }
-    ensures grammar { IsGrammar grammar.now }
+    ensures { IfOk result (λ rows. AreRuleSpots grammar.now rows.items) }
 {
     let rules = grammar.rules();
     let mut rows = Vec::with_capacity(alloc, rules.len() + 1)?;
@@ -88,6 +86,7 @@ impl Table {
         requires facts { AreFirsts grammar.now firsts.now }
         ensures { IfOk result (λ table. IsSetting grammar.now table.rows.items table.fronts.items) }
     {
+        grammar.holds();
         let rows = rows_of(alloc, grammar, firsts)?;
         let mut fronts = Vec::with_capacity(alloc, grammar.names() as usize)?;
         for name in 0..grammar.names() {

@@ -1,14 +1,12 @@
-use Rattle.std.proofs.Common.{◌-◌, ◌≤◌, length, All}
-use Rattle.item_sets.specs.Searching.{FindsStates, IsSearchBefore, IsStateSet}
+use Rattle.std.proofs.Common.{◌≡◌, ◌-◌, ◌≤◌, length}
+use Rattle.item_sets.specs.Searching.{IsSearchBefore}
 use Rattle.item_sets.proofs.building.collect.Given as goal
 
 abbrev pub invariant-loop-state : goal.invariant-loop-state
 invariant-loop-state l = record {
-  few : length l.states.sets.items ≤ 10000;
-  within : l.state ≤ length l.states.sets.items;
-  sets : All (IsStateSet l.fn.grammar) l.states.sets.items;
-  finds : FindsStates l.states.found l.states.sets.items;
-  search : IsSearchBefore l.fn.grammar l.states.sets.items l.steps.items l.state;
+  grammar : l.states.grammar ≡ l.fn.grammar;
+  within : l.state ≤ length l.states.states;
+  search : IsSearchBefore l.fn.grammar l.states.states l.steps.items l.state;
 }
 
 abbrev pub decreases-loop-state : goal.decreases-loop-state

@@ -27,8 +27,8 @@ loop-rule-preserved c =
           (each_pushed P c.loop-rule.rows.items [] row k c.loop-rule.invariant.count c.loop-rule.invariant.own (λ n right rule. row_of_rule g k c.rule.inside.left n right side row at are rule));
     }
 
-pub returns-clause-rows : goal.returns-clause-rows
-returns-clause-rows c =
+pub returns : goal.returns
+returns c =
     let g = c.args.grammar.now in
     let row = c.in_ok-spots_of-2.field-0 in
     let rows = c.loop-rule.rows.items in

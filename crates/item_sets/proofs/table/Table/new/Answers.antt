@@ -20,8 +20,8 @@ loop-name-preserved c =
 pub returns : goal.returns
 returns c =
     let g = c.args.grammar.now in
-    setting_of g c.in_ok-rows.rows.items c.loop-name.fronts.items c.rows_of.ensures.grammar (record {
-      spots = c.in_ok-rows.ensures.rows;
+    setting_of g c.in_ok-rows.rows.items c.loop-name.fronts.items c.holds.ensures (record {
+      spots = c.in_ok-rows.ensures;
       count = (let count = c.loop-name.invariant.count in omega arith);
       each = λ n less. c.loop-name.invariant.each n (omega arith);
     }) c.requires.productive
