@@ -2,3 +2,5 @@ pub mod FlatLemmas
 pub mod SlotLemmas
 pub mod ChunkListLemmas
 pub mod StoreLemmas
+pub mod FrameLemmas
+pub mod WalkingLemmas

@@ -2,11 +2,17 @@
 #![tactic(auto)]
 
 mod chunk;
+mod frame;
+mod frames;
 mod node;
 mod packed_kid;
 mod slots;
+mod step;
 mod store;
+mod walk;
 
 pub use node_data::{Kid, NodeRef};
 pub use packed_kid::PackedKid;
+pub use step::Step;
 pub use store::Store;
+pub use walk::Walk;
