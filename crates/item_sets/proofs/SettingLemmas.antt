@@ -142,9 +142,6 @@ module _ (g : Grammar) (e : Entry) (first : IsFirstEntry g e) where
 -- ---- the kernels of a state
 
 module _ (g : Grammar) (rows fronts : List (List Spot)) (setting : IsSetting g rows fronts) (set : List Entry) (are : AreEntries g set) where
-  pub rules_within : All (λ (e : Entry). e.rule < length rows) set
-  rules_within = All-weaker (IsEntry g) (λ (e : Entry). e.rule < length rows) (λ e is. let within = slice_get_within (all_rules g) e.rule (is.name, is.right) is.rule.found in omega (arith, setting.table.spots.count)) set are.each
-
   module _ (c : ℕ) (less : c < g.tokens + g.names) (kernel : List Entry) (is : kernel ≡ moved_entries rows c set) where
     kernel_here : IsKernel g kernel
     kernel_here = subst (λ (k : List Entry). IsKernel g k) (sym is) (kernel_is g rows fronts setting (symbol_at g c) c (column_at g c less) set are)

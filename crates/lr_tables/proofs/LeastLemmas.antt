@@ -1,6 +1,7 @@
 -- The least items of some entries that act on a token, and that do something else on it.
-use Rattle.std.proofs.Common.{◌≡◌, ◌≢◌, ℕ, ◌+◌, ◌<◌, ◌≤◌, ◌⊎◌, inl, inr, true, false, IsTrue, List, length, take, get_or, Option, Some, None, refl, sym, ap, subst, ◌∙◌, arith}
+use Rattle.std.proofs.Common.{IfSome, ◌≡◌, ◌≢◌, ℕ, ◌+◌, ◌<◌, ◌≤◌, ◌⊎◌, inl, inr, true, false, IsTrue, List, length, take, get_or, Option, Some, None, refl, sym, ap, subst, ◌∙◌, arith}
 use Rattle.std.proofs.lemmas.Bool.{cases_order, or_cases, false≢true}
+use Rattle.std.proofs.lemmas.Option.{same_Some}
 use Rattle.std.proofs.lemmas.List.{get_or-take, get_or_default, length-take-le}
 use Rattle.std.proofs.lemmas.List.Folds.{list_any_more, Any-from_list_any}
 use Rattle.grammar_data.specs.Grammar.{Grammar}
@@ -12,11 +13,11 @@ use Rattle.collection_data.specs.Entries.{entry_has, entries_have, IsEntryBefore
 use Rattle.collection_data.proofs.TokenLemmas.{past_words}
 use Rattle.collection_data.proofs.EntryLemmas.{entry_parts, entry_from, have_at}
 use Rattle.table_theory.specs.Deeds.{IsItemBefore, IsItemUpTo, HasDeed}
-use Rattle.lr_tables.specs.declared.doing.Doing.{Doing}
-use Rattle.lr_tables.specs.declared.doing.Doing.TheVariants.{Nothing, Shift, Reduce, Accept}
-use Rattle.lr_tables.specs.Doings.{HasItem, HaveItem, IsDone, IsDoingOf, IsOn, deed_in}
+use Rattle.lr_tables.specs.declared.deed.EntryDeed.{EntryDeed}
+use Rattle.lr_tables.specs.declared.deed.EntryDeed.TheVariants.{Shift, Reduce, Accept}
+use Rattle.lr_tables.specs.EntryDeeds.{HasItem, HaveItem, IsDone, IsDeedOf, IsOn, deed_in, known_deed}
 use Rattle.lr_tables.specs.Clashing.{IsLeastToken, IsLeastAhead, HasNoneBeside, IsLeastBeside}
-use Rattle.lr_tables.proofs.DoingLemmas.{done_of}
+use Rattle.lr_tables.proofs.EntryDeedLemmas.{done_of}
 
 none_some : {X : Type 0} {x : X} → ◌≡◌ {A = Option X} None (Some x) → ⊥
 none_some e = cc
@@ -42,52 +43,47 @@ least_up_to tokens a b least has = cases (cases_order a b)
 -- ---- what is done
 
 -- what is done on a token is one deed
-pub done_deed : (g : Grammar) (doing : Doing) (ahead a : ℕ) (deed : Deed) → IsDone g doing ahead a deed → deed_in doing ≡ Some deed
-done_deed g Nothing ahead a deed done = absurd done
-done_deed g (Shift b) ahead a deed done = ap Some (sym done.1)
-done_deed g (Reduce r) ahead a deed done = ap Some (sym done.1)
-done_deed g Accept ahead a deed done = ap Some (sym done.1)
+pub done_deed : (g : Grammar) (d : EntryDeed) (ahead a : ℕ) (deed : Deed) → IsDone g d ahead a deed → deed_in d ≡ deed
+done_deed g (Shift b) ahead a deed done = sym done.1
+done_deed g (Reduce r) ahead a deed done = sym done.1
+done_deed g Accept ahead a deed done = sym done.1
 
-done_on : (g : Grammar) (doing : Doing) (ahead a : ℕ) (deed : Deed) → IsDone g doing ahead a deed → IsOn doing a
-done_on g Nothing ahead a deed done = tt
+done_on : (g : Grammar) (d : EntryDeed) (ahead a : ℕ) (deed : Deed) → IsDone g d ahead a deed → IsOn d a
 done_on g (Shift b) ahead a deed done = sym done.0
 done_on g (Reduce r) ahead a deed done = tt
 done_on g Accept ahead a deed done = tt
 
 -- the least item that acts does it too
-done_with : (g : Grammar) (e : Entry) (doing : Doing) (ahead least a : ℕ) (deed : Deed) → IsDone g doing ahead a deed → IsLeastAhead e doing a least → IsDone g doing least a deed
-done_with g e Nothing ahead least a deed done is = done
+done_with : (g : Grammar) (e : Entry) (d : EntryDeed) (ahead least a : ℕ) (deed : Deed) → IsDone g d ahead a deed → IsLeastAhead e d a least → IsDone g d least a deed
 done_with g e (Shift b) ahead least a deed done is = done
 done_with g e (Reduce r) ahead least a deed done is = (is, done.1)
 done_with g e Accept ahead least a deed done is = done
 
-ahead_has : (g : Grammar) (e : Entry) (doing : Doing) (ahead least a : ℕ) (deed : Deed) → IsDone g doing ahead a deed → IsTrue (has_token e.ahead ahead) → IsLeastAhead e doing a least → IsTrue (has_token e.ahead least)
-ahead_has g e Nothing ahead least a deed done has is = is.has
+ahead_has : (g : Grammar) (e : Entry) (d : EntryDeed) (ahead least a : ℕ) (deed : Deed) → IsDone g d ahead a deed → IsTrue (has_token e.ahead ahead) → IsLeastAhead e d a least → IsTrue (has_token e.ahead least)
 ahead_has g e (Shift b) ahead least a deed done has is = is.has
 ahead_has g e (Reduce r) ahead least a deed done has is = subst (λ k. IsTrue (has_token e.ahead k)) (done.0 ∙ sym is) has
 ahead_has g e Accept ahead least a deed done has is = is.has
 
-ahead_up_to : (g : Grammar) (e : Entry) (doing : Doing) (ahead least a : ℕ) (deed : Deed) → IsDone g doing ahead a deed → IsTrue (has_token e.ahead ahead) → IsLeastAhead e doing a least → (least ≡ ahead) ⊎ (least < ahead)
-ahead_up_to g e Nothing ahead least a deed done has is = least_up_to e.ahead least ahead is has
+ahead_up_to : (g : Grammar) (e : Entry) (d : EntryDeed) (ahead least a : ℕ) (deed : Deed) → IsDone g d ahead a deed → IsTrue (has_token e.ahead ahead) → IsLeastAhead e d a least → (least ≡ ahead) ⊎ (least < ahead)
 ahead_up_to g e (Shift b) ahead least a deed done has is = least_up_to e.ahead least ahead is has
 ahead_up_to g e (Reduce r) ahead least a deed done has is = inl (is ∙ sym done.0)
 ahead_up_to g e Accept ahead least a deed done has is = least_up_to e.ahead least ahead is has
 
--- one deed on a token is of one doing
-same_doing : (x y : Doing) (a : ℕ) (deed : Deed) → IsOn x a → IsOn y a → deed_in x ≡ Some deed → deed_in y ≡ Some deed → x ≡ y
-same_doing Nothing y a deed on too is at = absurd (none_some is)
-same_doing (Shift b) Nothing a deed on too is at = absurd (none_some at)
-same_doing (Shift b) (Shift c) a deed on too is at = ap Shift (on ∙ sym too)
-same_doing (Shift b) (Reduce r) a deed on too is at = absurd (cc)
-same_doing (Shift b) Accept a deed on too is at = absurd (cc)
-same_doing (Reduce r) Nothing a deed on too is at = absurd (none_some at)
-same_doing (Reduce r) (Shift c) a deed on too is at = absurd (cc)
-same_doing (Reduce r) (Reduce s) a deed on too is at = let same : r ≡ s = cc in ap Reduce same
-same_doing (Reduce r) Accept a deed on too is at = absurd (cc)
-same_doing Accept Nothing a deed on too is at = absurd (none_some at)
-same_doing Accept (Shift c) a deed on too is at = absurd (cc)
-same_doing Accept (Reduce r) a deed on too is at = absurd (cc)
-same_doing Accept Accept a deed on too is at = refl
+-- one deed on a token is of one entry deed
+same_deed : (x y : EntryDeed) (a : ℕ) → IsOn x a → IsOn y a → deed_in x ≡ deed_in y → x ≡ y
+same_deed (Shift b) (Shift c) a on too is = ap Shift (on ∙ sym too)
+same_deed (Shift b) (Reduce r) a on too is = absurd (cc)
+same_deed (Shift b) Accept a on too is = absurd (cc)
+same_deed (Reduce r) (Shift c) a on too is = absurd (cc)
+same_deed (Reduce r) (Reduce s) a on too is = let same : r ≡ s = cc in ap Reduce same
+same_deed (Reduce r) Accept a on too is = absurd (cc)
+same_deed Accept (Shift c) a on too is = absurd (cc)
+same_deed Accept (Reduce r) a on too is = absurd (cc)
+same_deed Accept Accept a on too is = refl
+
+known_same : (x : EntryDeed) (known : Option EntryDeed) (a : ℕ) → IsOn x a → IfSome known (λ d. IsOn d a) → known_deed known ≡ Some (deed_in x) → known ≡ Some x
+known_same x None a on too is = absurd (none_some is)
+known_same x (Some y) a on too is = ap Some (same_deed y x a too on (same_Some _ _ is))
 
 -- ---- entries in their order
 
@@ -116,23 +112,23 @@ before_items d e x i (inr (same, less)) rule dot its_rule its_dot = inr (omega a
 
 -- ---- one entry more
 
-module _ (g : Grammar) (es : List Entry) (are : AreEntries g es) (a : ℕ) (known : Doing) (k : ℕ) (e : Entry) (less : k < length es) (here : e ≡ get_or es k e) (doing : Doing) (is : IsDoingOf g e doing) (none : HasNoneBeside g (take k es) a known) where
-  none_by : ((i : Item) (deed : Deed) → HasItem e i → Does g i a deed → deed_in known ≢ Some deed → ⊥) → HasNoneBeside g (take (k + 1) es) a known
+module _ (g : Grammar) (es : List Entry) (are : AreEntries g es) (a : ℕ) (known : Option EntryDeed) (k : ℕ) (e : Entry) (less : k < length es) (here : e ≡ get_or es k e) (none : HasNoneBeside g (take k es) a known) where
+  none_by : ((i : Item) (deed : Deed) → HasItem e i → Does g i a deed → known_deed known ≢ Some deed → ⊥) → HasNoneBeside g (take (k + 1) es) a known
   none_by without i deed has does other = cases (have_more es k e i less here has)
     where
       cases : HaveItem (take k es) i ⊎ HasItem e i → ⊥
       cases (inl h) = none i deed h does other
       cases (inr h) = without i deed h does other
 
-  pub none_same : doing ≡ known → HasNoneBeside g (take (k + 1) es) a known
-  none_same same = none_by (λ i deed has does other. other (ap deed_in (sym same) ∙ done_deed g doing i.ahead a deed ((is i has a deed).0 does)))
+  pub none_same : (d : EntryDeed) → IsDeedOf g e d → known ≡ Some d → HasNoneBeside g (take (k + 1) es) a known
+  none_same d is same = none_by (λ i deed has does other. other (ap known_deed same ∙ ap Some (done_deed g d i.ahead a deed ((is i has a deed).0 does))))
 
   pub none_idle : (((deed : Deed) × HasDeed g (HasItem e) a deed) → ⊥) → HasNoneBeside g (take (k + 1) es) a known
   none_idle idle = none_by (λ i deed has does other. idle (deed, (i, has, does)))
 
-  module _ (x : Item) (rule : x.rule ≡ e.rule) (dot : x.dot ≡ e.dot) (ahead : IsLeastAhead e doing a x.ahead) (known_on : IsOn known a) (differs : doing ≡ known → ⊥) where
+  module _ (d : EntryDeed) (is : IsDeedOf g e d) (x : Item) (rule : x.rule ≡ e.rule) (dot : x.dot ≡ e.dot) (ahead : IsLeastAhead e d a x.ahead) (known_on : IfSome known (λ f. IsOn f a)) (differs : known ≡ Some d → ⊥) where
     up_to_same : (i : Item) (other : Deed) → HasItem e i → Does g i a other → IsItemUpTo x i
-    up_to_same i other has does = cases (ahead_up_to g e doing i.ahead x.ahead a other ((is i has a other).0 does) parts.2 ahead)
+    up_to_same i other has does = cases (ahead_up_to g e d i.ahead x.ahead a other ((is i has a other).0 does) parts.2 ahead)
       where
         parts : (e.rule ≡ i.rule) × (e.dot ≡ i.dot) × IsTrue (has_token e.ahead i.ahead)
         parts = entry_parts e i has
@@ -141,35 +137,34 @@ module _ (g : Grammar) (es : List Entry) (are : AreEntries g es) (a : ℕ) (know
         cases (inl same) = inl (item_same (rule ∙ parts.0) (dot ∙ parts.1) same)
         cases (inr before) = inr (inr (rule ∙ parts.0, inr (dot ∙ parts.1, before)))
 
-    up_to : (i : Item) (other : Deed) → HaveItem es i → Does g i a other → deed_in known ≢ Some other → IsItemUpTo x i
+    up_to : (i : Item) (other : Deed) → HaveItem es i → Does g i a other → known_deed known ≢ Some other → IsItemUpTo x i
     up_to i other has does other_than = at (at_place es i has)
       where
-        at : ((m : ℕ) × (d : Entry) × (m < length es) × (get_or es m d ≡ d) × HasItem d i) → IsItemUpTo x i
-        at (m, d, within, is_there, has_it) = cases (cases_order k m)
+        at : ((m : ℕ) × (f : Entry) × (m < length es) × (get_or es m f ≡ f) × HasItem f i) → IsItemUpTo x i
+        at (m, f, within, is_there, has_it) = cases (cases_order k m)
           where
-            parts : (d.rule ≡ i.rule) × (d.dot ≡ i.dot) × IsTrue (has_token d.ahead i.ahead)
-            parts = entry_parts d i has_it
+            parts : (f.rule ≡ i.rule) × (f.dot ≡ i.dot) × IsTrue (has_token f.ahead i.ahead)
+            parts = entry_parts f i has_it
 
             cases : (k ≡ m) ⊎ ((k < m) ⊎ (m < k)) → IsItemUpTo x i
             cases (inl same) =
-                let one : d ≡ e = sym is_there ∙ ap (λ n. get_or es n d) (sym same) ∙ get_or_default es k d e less ∙ sym here in
-                up_to_same i other (subst (λ (f : Entry). HasItem f i) one has_it) does
+                let one : f ≡ e = sym is_there ∙ ap (λ n. get_or es n f) (sym same) ∙ get_or_default es k f e less ∙ sym here in
+                up_to_same i other (subst (λ (h : Entry). HasItem h i) one has_it) does
             cases (inr (inl later)) =
-                let before : IsEntryBefore e d = subst (λ (f : Entry). IsEntryBefore f d) (get_or_default es k d e less ∙ sym here) (subst (λ (f : Entry). IsEntryBefore (get_or es k d) f) is_there (are.rising k m d later within)) in
-                inr (before_items e d x i before rule dot parts.0 parts.1)
-            cases (inr (inr earlier)) = absurd (none i other (have_before es k m d i earlier (omega arith) is_there has_it) does other_than)
+                let before : IsEntryBefore e f = subst (λ (h : Entry). IsEntryBefore h f) (get_or_default es k f e less ∙ sym here) (subst (λ (h : Entry). IsEntryBefore (get_or es k f) h) is_there (are.rising k m f later within)) in
+                inr (before_items e f x i before rule dot parts.0 parts.1)
+            cases (inr (inr earlier)) = absurd (none i other (have_before es k m f i earlier (omega arith) is_there has_it) does other_than)
 
-    pub least_found : ((deed : Deed) × HasDeed g (HasItem e) a deed) → IsLeastBeside g es a known x doing
+    pub least_found : ((deed : Deed) × HasDeed g (HasItem e) a deed) → IsLeastBeside g es a known x d
     least_found (deed, has) =
-        let acting = done_of g e doing is a deed has in
-        let done : IsDone g doing x.ahead a deed = done_with g e doing acting.0.ahead x.ahead a deed acting.2 ahead in
-        let has_it : HasItem e x = entry_from e x (sym rule) (sym dot) (ahead_has g e doing acting.0.ahead x.ahead a deed acting.2 (entry_parts e acting.0 acting.1).2 ahead) in
+        let acting = done_of g e d is a deed has in
+        let done : IsDone g d x.ahead a deed = done_with g e d acting.0.ahead x.ahead a deed acting.2 ahead in
+        let has_it : HasItem e x = entry_from e x (sym rule) (sym dot) (ahead_has g e d acting.0.ahead x.ahead a deed acting.2 (entry_parts e acting.0 acting.1).2 ahead) in
+        let on : IsOn d a = done_on g d x.ahead a deed done in
         record {
-          deed = deed;
-          is = done_deed g doing x.ahead a deed done;
-          on = done_on g doing x.ahead a deed done;
+          on = on;
           has = have_here es k e x less here has_it;
-          does = (is x has_it a deed).1 done;
-          differs = λ same. differs (same_doing doing known a deed (done_on g doing x.ahead a deed done) known_on (done_deed g doing x.ahead a deed done) same);
+          does = subst (λ k. Does g x a k) (sym (done_deed g d x.ahead a deed done)) ((is x has_it a deed).1 done);
+          differs = λ same. differs (known_same d known a on known_on same);
           least = up_to;
         }

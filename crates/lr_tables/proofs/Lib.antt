@@ -1,4 +1,4 @@
-pub mod DoingLemmas
+pub mod EntryDeedLemmas
 pub mod LeastLemmas
 pub mod PutLemmas
 pub mod RowLemmas

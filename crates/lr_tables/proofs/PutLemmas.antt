@@ -22,10 +22,10 @@ use Rattle.table_theory.specs.Deeds.{HasDeed}
 use Rattle.table_theory.specs.Clashes.{ItemsOf}
 use Rattle.table_theory.specs.Canonical.{deed_of}
 use Rattle.table_theory.proofs.ClashLemmas.{word_of, state_of}
-use Rattle.lr_tables.specs.declared.doing.Doing.TheVariants.{Shift as DoesShift, Reduce as DoesReduce, Accept as DoesAccept}
-use Rattle.lr_tables.specs.Doings.{HasItem, IsDoingOf}
+use Rattle.lr_tables.specs.declared.deed.EntryDeed.TheVariants.{Shift as shift_deed, Reduce as reduce_deed, Accept as accept_deed}
+use Rattle.lr_tables.specs.EntryDeeds.{HasItem, IsDeedOf}
 use Rattle.lr_tables.specs.Filling.{IsTaken, IsPut, only, below, AreReducesPut, IsReduceTaken, AreShiftsSteps, IsEntryPut, IsInTheWay}
-use Rattle.lr_tables.proofs.DoingLemmas.{done_of, deed_shift, deed_reduce, deed_accept}
+use Rattle.lr_tables.proofs.EntryDeedLemmas.{done_of, deed_shift, deed_reduce, deed_accept}
 
 none_some : {X : Type 0} {x : X} → ◌≡◌ {A = Option X} None (Some x) → ⊥
 none_some e = cc
@@ -156,13 +156,13 @@ module _ (g : Grammar) (c : CollectionParts) (e : Entry) (q : ℕ) (old : Tables
       let first = taken_differs act (act_in old q a) deed is (λ p r here there. same_Some r p (sym (steps a r there) ∙ target p here)) taken in
       (a, small, first.0, deed, first.1, does, first.2)
 
-  pub shift_in_the_way : (b p : ℕ) → b ≤ end_mark g → IsEntry g e → IsDoingOf g e (DoesShift b) → step_in c q (Token b) ≡ Some p → IsTaken (Shift p) (act_in old q b) → IsInTheWay g e q old
+  pub shift_in_the_way : (b p : ℕ) → b ≤ end_mark g → IsEntry g e → IsDeedOf g e (shift_deed b) → step_in c q (Token b) ≡ Some p → IsTaken (Shift p) (act_in old q b) → IsInTheWay g e q old
   shift_in_the_way b p small entry is step taken = in_the_way (Shift p) to_shift b small refl (deed_shift g e b entry is) (λ r same. let one : p ≡ r = cc in step ∙ ap Some one) taken
 
-  pub reduce_in_the_way : (r bound : ℕ) → bound ≡ end_mark g + 1 → IsDoingOf g e (DoesReduce r) → IsReduceTaken bound e.ahead q r old → IsInTheWay g e q old
+  pub reduce_in_the_way : (r bound : ℕ) → bound ≡ end_mark g + 1 → IsDeedOf g e (reduce_deed r) → IsReduceTaken bound e.ahead q r old → IsInTheWay g e q old
   reduce_in_the_way r bound same is (a, less, has, taken) = in_the_way (Reduce r) (to_reduce r) a (omega arith) refl (deed_reduce g e r is a has) (λ p e. absurd (cc)) taken
 
-  pub accept_in_the_way : (b : ℕ) → b ≡ end_mark g → IsEntry g e → IsDoingOf g e DoesAccept → IsTaken Accept (act_in old q b) → IsInTheWay g e q old
+  pub accept_in_the_way : (b : ℕ) → b ≡ end_mark g → IsEntry g e → IsDeedOf g e accept_deed → IsTaken Accept (act_in old q b) → IsInTheWay g e q old
   accept_in_the_way b same entry is taken = in_the_way Accept to_accept b (omega arith) refl (subst (λ k. HasDeed g (HasItem e) k to_accept) (sym same) (deed_accept g e entry is)) (λ p e. absurd (cc)) taken
 
   -- ---- an entry
@@ -203,24 +203,24 @@ module _ (g : Grammar) (c : CollectionParts) (e : Entry) (q : ℕ) (old : Tables
       rest = put.rest;
     }
 
-  pub shift_put : (new : Tables) (b p : ℕ) → IsEntry g e → IsDoingOf g e (DoesShift b) → step_in c q (Token b) ≡ Some p → IsPut (only b) q (Shift p) old new → IsEntryPut g c e q old new
+  pub shift_put : (new : Tables) (b p : ℕ) → IsEntry g e → IsDeedOf g e (shift_deed b) → step_in c q (Token b) ≡ Some p → IsPut (only b) q (Shift p) old new → IsEntryPut g c e q old new
   shift_put new b p entry is step put = entry_put new (only b) (Shift p) to_shift refl put
       (λ a on. subst (λ k. HasDeed g (HasItem e) k to_shift) (sym (eqb-true a b on)) (deed_shift g e b entry is))
-      (λ a other small has. let done = done_of g e (DoesShift b) is a other has in (eq-eqb a b done.2.0, done.2.1))
+      (λ a other small has. let done = done_of g e (shift_deed b) is a other has in (eq-eqb a b done.2.0, done.2.1))
       (λ a r on same. let one : p ≡ r = cc in ap (λ k. step_in c q (Token k)) (eqb-true a b on) ∙ step ∙ ap Some one)
 
-  pub reduce_put : (new : Tables) (r bound : ℕ) → bound ≡ end_mark g + 1 → IsDoingOf g e (DoesReduce r) → AreReducesPut bound e.ahead q r old new → IsEntryPut g c e q old new
+  pub reduce_put : (new : Tables) (r bound : ℕ) → bound ≡ end_mark g + 1 → IsDeedOf g e (reduce_deed r) → AreReducesPut bound e.ahead q r old new → IsEntryPut g c e q old new
   reduce_put new r bound same is put = entry_put new (below bound e.ahead) (Reduce r) (to_reduce r) refl put
       (λ a on. deed_reduce g e r is a (below_parts bound e.ahead a on).1)
-      (λ a other small has. let done = done_of g e (DoesReduce r) is a other has in
+      (λ a other small has. let done = done_of g e (reduce_deed r) is a other has in
       (below_in bound e.ahead a (omega arith) ∙ ap (has_token e.ahead) (sym done.2.0) ∙ ahead_in done.0 done.1, done.2.1))
       (λ a p on e. absurd (cc))
     where
       ahead_in : (i : Item) → HasItem e i → IsTrue (has_token e.ahead i.ahead)
       ahead_in i has = (entry_parts e i has).2
 
-  pub accept_put : (new : Tables) (b : ℕ) → b ≡ end_mark g → IsEntry g e → IsDoingOf g e DoesAccept → IsPut (only b) q Accept old new → IsEntryPut g c e q old new
+  pub accept_put : (new : Tables) (b : ℕ) → b ≡ end_mark g → IsEntry g e → IsDeedOf g e accept_deed → IsPut (only b) q Accept old new → IsEntryPut g c e q old new
   accept_put new b same entry is put = entry_put new (only b) Accept to_accept refl put
       (λ a on. subst (λ k. HasDeed g (HasItem e) k to_accept) (sym same ∙ sym (eqb-true a b on)) (deed_accept g e entry is))
-      (λ a other small has. let done = done_of g e DoesAccept is a other has in (eq-eqb a b (done.2.0 ∙ sym same), done.2.1))
+      (λ a other small has. let done = done_of g e accept_deed is a other has in (eq-eqb a b (done.2.0 ∙ sym same), done.2.1))
       (λ a p on e. absurd (cc))

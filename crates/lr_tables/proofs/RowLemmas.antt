@@ -18,7 +18,7 @@ use Rattle.table_theory.specs.Conflicts.{IsFirstConflict}
 use Rattle.table_theory.proofs.ClashLemmas.{word_of, first_clash_law}
 use Rattle.table_theory.proofs.CanonicalLemmas.{does_within, no_conflict}
 use Rattle.lr_machine.specs.IsTables.{AreBlank}
-use Rattle.lr_tables.specs.Doings.{HasItem, HaveItem}
+use Rattle.lr_tables.specs.EntryDeeds.{HasItem, HaveItem}
 use Rattle.lr_tables.specs.Clashing.{IsClashOn}
 use Rattle.lr_tables.specs.Filling.{IsSetting, IsEntryPut, IsInTheWay, IsRow, AreActsSet, AreGotosSet, IsFilledTo}
 use Rattle.lr_tables.specs.Building.{AreTablesOf}

@@ -13,7 +13,7 @@ use Rattle.table_data.specs.Tables.{Tables, act_in, goto_in}
 use Rattle.table_theory.specs.Deeds.{HasDeed}
 use Rattle.table_theory.specs.Clashes.{HasClash, ItemsOf}
 use Rattle.table_theory.specs.Canonical.{deed_of, IsCanonicalAct}
-use Rattle.lr_tables.specs.Doings.{HasItem, HaveItem}
+use Rattle.lr_tables.specs.EntryDeeds.{HasItem, HaveItem}
 
 -- the tables have the grammar's parts, and a row for each state of its collection
 pub record IsSetting (g : Grammar) (c : CollectionParts) (t : Tables) : Type 0 where

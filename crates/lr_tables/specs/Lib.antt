@@ -1,4 +1,4 @@
-pub mod Doings
+pub mod EntryDeeds
 pub mod Filling
 pub mod Clashing
 pub mod Building

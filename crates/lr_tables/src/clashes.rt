@@ -1,11 +1,11 @@
-ghost use Rattle.std.specs.Prelude.{◌≡◌, ℕ, ◌<◌, ◌≤◌, IsTrue, MatchOption};
+ghost use Rattle.std.specs.Prelude.{◌≡◌, ℕ, ◌<◌, ◌≤◌, IfSome, IsTrue, MatchOption};
 ghost use Rattle.grammar_data.specs.TokenSet.{has_token};
 ghost use Rattle.collection_data.specs.Entries.{AreEntries};
 ghost use Rattle.table_theory.specs.Clashes.{HasClash};
-ghost use Rattle.lr_tables.specs.Doings.{HaveItem, IsOn};
+ghost use Rattle.lr_tables.specs.EntryDeeds.{HaveItem, IsOn};
 ghost use Rattle.lr_tables.specs.Clashing.{HasNoneBeside, IsClashOn, IsLeastAhead, IsLeastBeside, IsLeastToken};
 
-use crate::doing::{Doing, acts, doing_of};
+use crate::deed::{EntryDeed, acts, entry_deed};
 use grammar_faults::{Conflict, Item};
 use item_sets::Entry;
 use lr_base::{Grammar, StateId, TokenId, TokenSet};
@@ -23,16 +23,16 @@ fn least(tokens: &TokenSet) -> TokenId
     unreachable!()
 }
 
-/// The least item of an entry that acts on a token.
-fn least_item(entry: &Entry, doing: Doing, token: TokenId) -> Item
+/// The least item of an entry that does this on a token.
+fn least_item(entry: &Entry, deed: EntryDeed, token: TokenId) -> Item
     requires { (a : ℕ) × IsTrue (has_token entry.now.ahead a) }
     ensures rule { result.rule ≡ entry.now.rule }
     ensures dot { result.dot ≡ entry.now.dot }
-    ensures ahead { IsLeastAhead entry.now doing token result.ahead }
+    ensures ahead { IsLeastAhead entry.now deed token result.ahead }
 {
-    let ahead = match doing {
-        Doing::Reduce(_) => token,
-        Doing::Nothing | Doing::Shift(_) | Doing::Accept => least(&entry.ahead),
+    let ahead = match deed {
+        EntryDeed::Reduce(_) => token,
+        EntryDeed::Shift(_) | EntryDeed::Accept => least(&entry.ahead),
     };
     Item {
         rule: entry.rule,
@@ -46,18 +46,20 @@ fn least_beside(
     grammar: &Grammar,
     entries: &[Entry],
     token: TokenId,
-    known: Doing,
-) -> Option<(Item, Doing)>
+    known: Option<EntryDeed>,
+) -> Option<(Item, EntryDeed)>
     requires entries { AreEntries grammar.now entries.now }
-    requires known { IsOn known token }
+    requires known { IfSome known (λ deed. IsOn deed token) }
     ensures { MatchOption result
         (HasNoneBeside grammar.now entries.now token known)
         (λ found. IsLeastBeside grammar.now entries.now token known found.0 found.1) }
 {
     for entry in entries {
-        let doing = doing_of(grammar, entry);
-        if doing != known && acts(grammar, entry, doing, token) {
-            return Some((least_item(entry, doing, token), doing));
+        let Some(deed) = entry_deed(grammar, entry) else {
+            continue;
+        };
+        if known != Some(deed) && acts(grammar, entry, &deed, token) {
+            return Some((least_item(entry, deed, token), deed));
         }
     }
     None
@@ -70,8 +72,8 @@ fn clash_on(grammar: &Grammar, entries: &[Entry], token: TokenId) -> Option<(Ite
         (HasClash grammar.now (HaveItem entries.now) token → ⊥)
         (λ found. IsClashOn grammar.now entries.now token found.0 found.1) }
 {
-    let (first, doing) = least_beside(grammar, entries, token, Doing::Nothing)?;
-    let (second, _) = least_beside(grammar, entries, token, doing)?;
+    let (first, deed) = least_beside(grammar, entries, token, None)?;
+    let (second, _) = least_beside(grammar, entries, token, Some(deed))?;
     Some((first, second))
 }
 

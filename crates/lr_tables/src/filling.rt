@@ -5,7 +5,7 @@ ghost use Rattle.collection_data.specs.Entries.{IsEntry};
 ghost use Rattle.collection_data.specs.Collection.{state_count};
 ghost use Rattle.lr_tables.specs.Filling.{AreActsSet, AreGotosSet, AreItemsOf, AreReducesPut, AreShiftsSteps, HasClashWithin, IsEntryPut, IsInTheWay, IsPut, IsReduceTaken, IsSetting, IsTaken, only};
 
-use crate::doing::{Doing, doing_of};
+use crate::deed::{EntryDeed, entry_deed};
 use item_sets::{Collection, Entry};
 use lr_base::{Grammar, NameId, RuleId, StateId, Sym, TokenId, TokenSet};
 use lr_machine::{Act, Tables};
@@ -70,14 +70,16 @@ fn put_entry(
     ensures put { OnOk result (IsEntryPut grammar.now collection.now entry.now state tables.old tables.new) }
     ensures taken { OnErr result (IsInTheWay grammar.now entry.now state tables.old) }
 {
-    match doing_of(grammar, entry) {
-        Doing::Nothing => Ok(()),
-        Doing::Shift(token) => match collection.step(state, Sym::Token(token)) {
+    let Some(deed) = entry_deed(grammar, entry) else {
+        return Ok(());
+    };
+    match deed {
+        EntryDeed::Shift(token) => match collection.step(state, Sym::Token(token)) {
             Some(to) => put(tables, state, token, Act::Shift(to)),
             None => unreachable!(),
         },
-        Doing::Reduce(rule) => put_reduces(tables, state, rule, &entry.ahead),
-        Doing::Accept => {
+        EntryDeed::Reduce(rule) => put_reduces(tables, state, rule, &entry.ahead),
+        EntryDeed::Accept => {
             let end = tables.end();
             put(tables, state, end, Act::Accept)
         }

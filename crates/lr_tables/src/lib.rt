@@ -3,7 +3,7 @@
 
 mod building;
 mod clashes;
-mod doing;
+mod deed;
 mod fault;
 mod filling;
 

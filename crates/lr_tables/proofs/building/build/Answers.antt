@@ -6,7 +6,7 @@ use Rattle.grammar_laws.proofs.RangeLemmas.{in_range}
 use Rattle.lr_machine.specs.IsTables.{AreBlank}
 use Rattle.table_theory.specs.Clashes.{HasClash}
 use Rattle.table_theory.specs.Conflicts.{IsFirstConflict}
-use Rattle.lr_tables.specs.Doings.{HaveItem}
+use Rattle.lr_tables.specs.EntryDeeds.{HaveItem}
 use Rattle.lr_tables.specs.Clashing.{IsClashOn}
 use Rattle.lawful_theory.proofs.CanonicalLemmas.{canonical_lawful_law}
 use Rattle.lr_tables.proofs.RowLemmas.{entries_of, filled_none, filled_more, first_conflict_at, tables_filled, free_of_conflicts}

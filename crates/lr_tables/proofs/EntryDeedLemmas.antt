@@ -16,9 +16,9 @@ use Rattle.collection_data.specs.declared.entry.Entry.{Entry}
 use Rattle.collection_data.specs.Entries.{IsEntry}
 use Rattle.collection_data.proofs.EntryLemmas.{entry_parts, entry_from}
 use Rattle.table_theory.specs.Deeds.{HasDeed}
-use Rattle.lr_tables.specs.declared.doing.Doing.{Doing}
-use Rattle.lr_tables.specs.declared.doing.Doing.TheVariants.{Nothing, Shift, Reduce, Accept}
-use Rattle.lr_tables.specs.Doings.{HasItem, IsDone, IsDoingOf}
+use Rattle.lr_tables.specs.declared.deed.EntryDeed.{EntryDeed}
+use Rattle.lr_tables.specs.declared.deed.EntryDeed.TheVariants.{Shift, Reduce, Accept}
+use Rattle.lr_tables.specs.EntryDeeds.{HasItem, IsDone, IsDeedOf, IsIdle}
 
 -- ---- one item, by what stands behind its dot
 
@@ -72,14 +72,14 @@ module _ (g : Grammar) (e : Entry) (n : ℕ) (right : List Sym) (rule : IsRule (
   dotted_by : (after : List Sym) → drop e.dot right ≡ after → (i : Item) → HasItem e i → Dotted g i n (take e.dot right) after
   dotted_by after behind i has = subst (λ (l : List Sym). Dotted g i n (take e.dot right) l) behind (dotted i has)
 
-  pub doing_shift : (b : ℕ) (after : List Sym) → drop e.dot right ≡ Token b ∷ after → IsDoingOf g e (Shift b)
-  doing_shift b after behind i has a deed = (does_shift (dotted_by _ behind i has), shift_does (dotted_by _ behind i has))
+  pub entry_shifts : (b : ℕ) (after : List Sym) → drop e.dot right ≡ Token b ∷ after → IsDeedOf g e (Shift b)
+  entry_shifts b after behind i has a deed = (does_shift (dotted_by _ behind i has), shift_does (dotted_by _ behind i has))
 
-  pub doing_nothing : (m : ℕ) (after : List Sym) → drop e.dot right ≡ Name m ∷ after → IsDoingOf g e Nothing
-  doing_nothing m after behind i has a deed = (does_nothing (dotted_by _ behind i has), λ h. absurd h)
+  pub entry_idle : (m : ℕ) (after : List Sym) → drop e.dot right ≡ Name m ∷ after → IsIdle g e
+  entry_idle m after behind i has a deed = does_nothing (dotted_by _ behind i has)
 
-  pub doing_reduce : drop e.dot right ≡ [] → e.rule < length g.rules → IsDoingOf g e (Reduce e.rule)
-  doing_reduce behind less i has a deed =
+  pub entry_reduces : drop e.dot right ≡ [] → e.rule < length g.rules → IsDeedOf g e (Reduce e.rule)
+  entry_reduces behind less i has a deed =
       let same = (entry_parts e i has).0 in
       let own : i.rule < length g.rules = omega arith in
       let d = dotted_by _ behind i has in (
@@ -87,8 +87,8 @@ module _ (g : Grammar) (e : Entry) (n : ℕ) (right : List Sym) (rule : IsRule (
         λ (at, is). reduces d own at (is ∙ ap to_reduce same),
       )
 
-  pub doing_accept : drop e.dot right ≡ [] → e.rule ≡ length g.rules → IsDoingOf g e Accept
-  doing_accept behind last i has a deed =
+  pub entry_accepts : drop e.dot right ≡ [] → e.rule ≡ length g.rules → IsDeedOf g e Accept
+  entry_accepts behind last i has a deed =
       let same = (entry_parts e i has).0 in
       let own : i.rule ≡ length g.rules = omega arith in
       let d = dotted_by _ behind i has in
@@ -131,38 +131,38 @@ item_with e b = record { rule = e.rule; dot = e.dot; ahead = b }
 pub has_with : (e : Entry) (b : ℕ) → IsTrue (has_token e.ahead b) → HasItem e (item_with e b)
 has_with e b has = entry_from e (item_with e b) refl refl has
 
-pub deed_shift : (g : Grammar) (e : Entry) (b : ℕ) → IsEntry g e → IsDoingOf g e (Shift b) → HasDeed g (HasItem e) b to_shift
+pub deed_shift : (g : Grammar) (e : Entry) (b : ℕ) → IsEntry g e → IsDeedOf g e (Shift b) → HasDeed g (HasItem e) b to_shift
 deed_shift g e b entry is =
     let has = has_with e entry.ahead entry.has in
     (item_with e entry.ahead, has, (is (item_with e entry.ahead) has b to_shift).1 (refl, refl))
 
-pub deed_reduce : (g : Grammar) (e : Entry) (r : ℕ) → IsDoingOf g e (Reduce r) → (a : ℕ) → IsTrue (has_token e.ahead a) → HasDeed g (HasItem e) a (to_reduce r)
+pub deed_reduce : (g : Grammar) (e : Entry) (r : ℕ) → IsDeedOf g e (Reduce r) → (a : ℕ) → IsTrue (has_token e.ahead a) → HasDeed g (HasItem e) a (to_reduce r)
 deed_reduce g e r is a ahead =
     let has = has_with e a ahead in
     (item_with e a, has, (is (item_with e a) has a (to_reduce r)).1 (refl, refl))
 
-pub deed_accept : (g : Grammar) (e : Entry) → IsEntry g e → IsDoingOf g e Accept → HasDeed g (HasItem e) (end_mark g) to_accept
+pub deed_accept : (g : Grammar) (e : Entry) → IsEntry g e → IsDeedOf g e Accept → HasDeed g (HasItem e) (end_mark g) to_accept
 deed_accept g e entry is =
     let has = has_with e entry.ahead entry.has in
     (item_with e entry.ahead, has, (is (item_with e entry.ahead) has (end_mark g) to_accept).1 (refl, refl))
 
 -- what is done is what the entry's items do
-pub done_of : (g : Grammar) (e : Entry) (doing : Doing) → IsDoingOf g e doing → (a : ℕ) (deed : Deed) → HasDeed g (HasItem e) a deed → (i : Item) × HasItem e i × IsDone g doing i.ahead a deed
-done_of g e doing is a deed (i, has, does) = (i, has, (is i has a deed).0 does)
+pub done_of : (g : Grammar) (e : Entry) (d : EntryDeed) → IsDeedOf g e d → (a : ℕ) (deed : Deed) → HasDeed g (HasItem e) a deed → (i : Item) × HasItem e i × IsDone g d i.ahead a deed
+done_of g e d is a deed (i, has, does) = (i, has, (is i has a deed).0 does)
 
-pub acts_shift : (g : Grammar) (e : Entry) (b : ℕ) → IsEntry g e → IsDoingOf g e (Shift b) → (a : ℕ) → (b ≡ a) ↔ ((deed : Deed) × HasDeed g (HasItem e) a deed)
+pub acts_shift : (g : Grammar) (e : Entry) (b : ℕ) → IsEntry g e → IsDeedOf g e (Shift b) → (a : ℕ) → (b ≡ a) ↔ ((deed : Deed) × HasDeed g (HasItem e) a deed)
 acts_shift g e b entry is a = (
   λ same. (to_shift, subst (λ k. HasDeed g (HasItem e) k to_shift) same (deed_shift g e b entry is)),
   λ (deed, has). sym (done_of g e (Shift b) is a deed has).2.0,
 )
 
-pub acts_reduce : (g : Grammar) (e : Entry) (r : ℕ) → IsDoingOf g e (Reduce r) → (a : ℕ) → IsTrue (has_token e.ahead a) ↔ ((deed : Deed) × HasDeed g (HasItem e) a deed)
+pub acts_reduce : (g : Grammar) (e : Entry) (r : ℕ) → IsDeedOf g e (Reduce r) → (a : ℕ) → IsTrue (has_token e.ahead a) ↔ ((deed : Deed) × HasDeed g (HasItem e) a deed)
 acts_reduce g e r is a = (
   λ ahead. (to_reduce r, deed_reduce g e r is a ahead),
   λ (deed, has). let done = done_of g e (Reduce r) is a deed has in subst (λ k. IsTrue (has_token e.ahead k)) done.2.0 (entry_parts e done.0 done.1).2,
 )
 
-pub acts_accept : (g : Grammar) (e : Entry) → IsEntry g e → IsDoingOf g e Accept → (a : ℕ) → (a ≡ end_mark g) ↔ ((deed : Deed) × HasDeed g (HasItem e) a deed)
+pub acts_accept : (g : Grammar) (e : Entry) → IsEntry g e → IsDeedOf g e Accept → (a : ℕ) → (a ≡ end_mark g) ↔ ((deed : Deed) × HasDeed g (HasItem e) a deed)
 acts_accept g e entry is a = (
   λ same. (to_accept, subst (λ k. HasDeed g (HasItem e) k to_accept) (sym same) (deed_accept g e entry is)),
   λ (deed, has). (done_of g e Accept is a deed has).2.0,
