@@ -107,10 +107,10 @@ done_law s covered done = ⊎_elim
     (λ past. past)
     (cases_lt s.counter s.leaves)
 
-carried_live : (s : CoreState) {range : Range} → Contains s.carried range → Contains (live_ranges s) range
+pub carried_live : (s : CoreState) {range : Range} → Contains s.carried range → Contains (live_ranges s) range
 carried_live s {range} has = Contains-append_left (s.carried ++ s.waiting) (ended_ranges s.done s.leaves) range (Contains-append_left s.carried s.waiting range has)
 
-waiting_live : (s : CoreState) {range : Range} → Contains s.waiting range → Contains (live_ranges s) range
+pub waiting_live : (s : CoreState) {range : Range} → Contains s.waiting range → Contains (live_ranges s) range
 waiting_live s {range} has = Contains-append_left (s.carried ++ s.waiting) (ended_ranges s.done s.leaves) range (Contains-append_right s.carried s.waiting range has)
 
 -- a carried part's node doesn't lie within a live range
@@ -234,7 +234,7 @@ other_word before after boundary {node} sets is differs =
     sets (boundary_of node) b.0 b.1 ∙ cond-false (eqb (boundary_of node) boundary) true (word_of before (boundary_of node)) (ne_eqb _ _ differs)
 
 -- the parts of a node
-part_is_parent : {leaves : ℕ} {node : Range} → IsNode leaves node → (is_left : Bool) → IsParent leaves (part_of node is_left) node is_left
+pub part_is_parent : {leaves : ℕ} {node : Range} → IsNode leaves node → (is_left : Bool) → IsParent leaves (part_of node is_left) node is_left
 part_is_parent is is_left = record { inner = is; part = refl }
 
 -- a part of another node isn't a part of this one

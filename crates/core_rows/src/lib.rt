@@ -1,0 +1,5 @@
+//! Worked rows of the protocol by which workers join neighbouring results.
+#![tactic(auto)]
+
+#[cfg(test)]
+mod events;

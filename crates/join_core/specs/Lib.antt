@@ -1,0 +1,3 @@
+pub mod Nodes
+pub mod Ranges
+pub mod Calls
