@@ -79,7 +79,7 @@ module _ {g : Grammar} {t : Tables} (lawful : IsLawfulFor g t) where
       cases Error e = at_error here e
 
   -- the end mark isn't shifted
-  no_end_shift : {s : List Entry} {a p : ℕ} → IsStack t 0 s → a ≡ end_mark g → act_in t (top 0 s) a ≡ Shift p → ⊥
+  pub no_end_shift : {s : List Entry} {a p : ℕ} → IsStack t 0 s → a ≡ end_mark g → act_in t (top 0 s) a ≡ Shift p → ⊥
   no_end_shift {s} {a} {p} is e act =
       let viable = (lawful.steps s (Token a) is).0 (p, ap shift_of act) in
       let less = end_below g.tokens a (symbols s) (prefix_range_law g lawful.range (symbols s ++ Token a ∷ []) viable).1 in
