@@ -43,7 +43,7 @@ LiesInLive s node = (range : Range) × Contains (live_ranges s) range × IsWithi
 -- a covered state: the live ranges are ranges of the tree, and each leaf below the counter is in exactly one of them, and
 -- no other leaf in any; the word of a boundary is set exactly where a part of its node waits or its node lies within a
 -- live range; at most one part of a node waits, and the range of all leaves never does; at the end nothing is carried or
--- waits
+-- waits. There are fewer leaves than a counter of 64 bits has values
 pub record IsCovered (s : CoreState) : Type 0 where
   pub few : s.leaves < 2 ^ 64
   pub ranges : All (IsRange s.leaves) (live_ranges s)

@@ -1,9 +1,10 @@
 -- The laws of the tree, of the events and of the runs.
-use Rattle.std.specs.Prelude.{◌≡◌, ◌⊎◌, ℕ, ◌<◌, ◌≤◌, ◌^◌, Bool, true, not, List, AllPairs, Contains, ◌==◌, count_by}
+use Rattle.std.specs.Prelude.{◌≡◌, ◌⊎◌, ℕ, ◌<◌, ◌≤◌, ◌^◌, Bool, true, not, List, ◌++◌, AllPairs, Contains, ◌==◌, count_by}
+use Rattle.std.specs.List.Sorted.{IsPermutation}
 use Rattle.core_theory.specs.Tree.{Range, whole_range, leaf_range, boundary_of, part_of, IsRange, IsNode, IsParent, IsWithin, IsApart}
 use Rattle.core_theory.specs.Core.{CoreState, word_of, live_ranges, LiesInLive, IsCovered}
 use Rattle.core_theory.specs.Events.{IsReordered}
-use Rattle.core_theory.specs.Runs.{IsStart, Event, IsStep, IsRun, leaves_claimed, boundaries_joined}
+use Rattle.core_theory.specs.Runs.{IsStart, Event, IsStep, IsRun, claimed_by, leaves_claimed, joined_by, boundaries_joined}
 
 -- of two ranges of the tree with a leaf in common, one is the other, or lies within a part of the other
 abbrev pub NestedLaw : Type 0
@@ -57,24 +58,35 @@ DoneLaw = (s : CoreState) → IsCovered s → s.done ≡ true → s.leaves ≤ s
 abbrev pub CoveredRunLaw : Type 0
 CoveredRunLaw = (leaves : ℕ) (start : CoreState) (events : List Event) (s : CoreState) → leaves < 2 ^ 64 → IsStart leaves start → IsRun start events s → IsCovered s
 
--- each leaf below the counter was claimed once, and no other was claimed
+-- how often a number stands in a list
 abbrev pub times_in : ℕ → List ℕ → ℕ
 times_in number numbers = count_by (λ other. other == number) numbers
 
-pub record ClaimsOnce (s : CoreState) (events : List Event) (leaf : ℕ) : Type 0 where
-  pub claimed : leaf < s.counter → leaf < s.leaves → times_in leaf (leaves_claimed events) ≡ 1
-  pub unclaimed : (s.counter ≤ leaf) ⊎ (s.leaves ≤ leaf) → times_in leaf (leaves_claimed events) ≡ 0
+-- of the leaves in a list each one below the counter stands there once, and no other
+pub record ClaimsOnce (s : CoreState) (claimed : List ℕ) (leaf : ℕ) : Type 0 where
+  pub claimed_leaf : leaf < s.counter → leaf < s.leaves → times_in leaf claimed ≡ 1
+  pub unclaimed_leaf : (s.counter ≤ leaf) ⊎ (s.leaves ≤ leaf) → times_in leaf claimed ≡ 0
 
+-- each event keeps that of a list that takes up what it claims
+abbrev pub ClaimStepLaw : Type 0
+ClaimStepLaw = (before : CoreState) (event : Event) (after : CoreState) (claimed more : List ℕ) (leaf : ℕ) → IsCovered before → IsStep before event after → IsPermutation (claimed_by event ++ claimed) more → ClaimsOnce before claimed leaf → ClaimsOnce after more leaf
+
+-- so the events from a start claim each leaf below the counter once, and no other
 abbrev pub ClaimRunLaw : Type 0
-ClaimRunLaw = (leaves : ℕ) (start : CoreState) (events : List Event) (s : CoreState) (leaf : ℕ) → leaves < 2 ^ 64 → IsStart leaves start → IsRun start events s → ClaimsOnce s events leaf
+ClaimRunLaw = (leaves : ℕ) (start : CoreState) (events : List Event) (s : CoreState) (leaf : ℕ) → leaves < 2 ^ 64 → IsStart leaves start → IsRun start events s → ClaimsOnce s (leaves_claimed events) leaf
 
--- the boundary of each node within a live range was joined once, and no other was
-pub record JoinsOnce (s : CoreState) (events : List Event) (node : Range) : Type 0 where
-  pub joined : LiesInLive s node → times_in (boundary_of node) (boundaries_joined events) ≡ 1
-  pub unjoined : (LiesInLive s node → ⊥) → times_in (boundary_of node) (boundaries_joined events) ≡ 0
+-- of the boundaries in a list that of each node within a live range stands there once, and no other
+pub record JoinsOnce (s : CoreState) (joined : List ℕ) (node : Range) : Type 0 where
+  pub joined_node : LiesInLive s node → times_in (boundary_of node) joined ≡ 1
+  pub unjoined_node : (LiesInLive s node → ⊥) → times_in (boundary_of node) joined ≡ 0
 
+-- each event keeps that of a list that takes up what it joins
+abbrev pub JoinStepLaw : Type 0
+JoinStepLaw = (before : CoreState) (event : Event) (after : CoreState) (joined more : List ℕ) (node : Range) → IsCovered before → IsNode before.leaves node → IsStep before event after → IsPermutation (joined_by event ++ joined) more → JoinsOnce before joined node → JoinsOnce after more node
+
+-- so the events from a start join the boundary of each node within a live range once, and no other
 abbrev pub JoinRunLaw : Type 0
-JoinRunLaw = (leaves : ℕ) (start : CoreState) (events : List Event) (s : CoreState) (node : Range) → leaves < 2 ^ 64 → IsStart leaves start → IsRun start events s → IsNode leaves node → JoinsOnce s events node
+JoinRunLaw = (leaves : ℕ) (start : CoreState) (events : List Event) (s : CoreState) (node : Range) → leaves < 2 ^ 64 → IsStart leaves start → IsRun start events s → IsNode leaves node → JoinsOnce s (boundaries_joined events) node
 
 -- where the end was reached each leaf was claimed once, and each boundary joined once
 abbrev pub WholeRunLaw : Type 0

@@ -2,7 +2,7 @@
 //! events and runs. Definitions and laws alone.
 #![tactic(auto)]
 
-ghost use Rattle.core_theory.specs.Laws.{ApartLaw, ClaimRunLaw, CoveredRunLaw, DoneLaw, JoinRunLaw, LeafLaw, NestedLaw, OneNodeLaw, OneParentLaw, ReorderLaw, SiblingLaw, SomeNodeLaw, SomeParentLaw, StartLaw, StepLaw, WholeRunLaw};
+ghost use Rattle.core_theory.specs.Laws.{ApartLaw, ClaimRunLaw, ClaimStepLaw, CoveredRunLaw, DoneLaw, JoinRunLaw, JoinStepLaw, LeafLaw, NestedLaw, OneNodeLaw, OneParentLaw, ReorderLaw, SiblingLaw, SomeNodeLaw, SomeParentLaw, StartLaw, StepLaw, WholeRunLaw};
 
 /// Ranges of the tree are nested or apart; each boundary is that of one node; each range but all leaves has one node above
 /// it; each leaf is a range.
@@ -15,11 +15,14 @@ pub fn join_tree_laws()
     ensures leaf { LeafLaw }
 {}
 
-/// A start is covered, and each event keeps a covered state covered, as another order of its lists does.
+/// A start is covered, and each event keeps a covered state covered, as another order of its lists does. An event claims and
+/// joins what none before it did.
 pub fn event_laws()
     ensures start { StartLaw }
     ensures step { StepLaw }
     ensures reorder { ReorderLaw }
+    ensures claim_step { ClaimStepLaw }
+    ensures join_step { JoinStepLaw }
 {}
 
 /// In a covered state a second arrival finds the other part waiting, live ranges have no leaf in common, and the end has
