@@ -60,15 +60,15 @@ module _ (g : Grammar) (a : ℕ) (here later both : Item → Type 0) (from_here 
 -- ---- one entry
 
 -- what an item with these symbols behind its dot does
-data Doing (g : Grammar) (i : Item) (a : ℕ) (deed : Deed) (after : List Sym) : Type 0 where
-  shifting : {rest : List Sym} → after ≡ Token a ∷ rest → deed ≡ Shift → Doing g i a deed after
-  reducing : after ≡ [] → i.rule < length g.rules → i.ahead ≡ a → deed ≡ Reduce i.rule → Doing g i a deed after
-  accepting : after ≡ [] → i.rule ≡ length g.rules → a ≡ end_mark g → deed ≡ Accept → Doing g i a deed after
+data DoneBehind (g : Grammar) (i : Item) (a : ℕ) (deed : Deed) (after : List Sym) : Type 0 where
+  shifting : {rest : List Sym} → after ≡ Token a ∷ rest → deed ≡ Shift → DoneBehind g i a deed after
+  reducing : after ≡ [] → i.rule < length g.rules → i.ahead ≡ a → deed ≡ Reduce i.rule → DoneBehind g i a deed after
+  accepting : after ≡ [] → i.rule ≡ length g.rules → a ≡ end_mark g → deed ≡ Accept → DoneBehind g i a deed after
 
-doing_of : {g : Grammar} {i : Item} {n a : ℕ} {deed : Deed} {before after : List Sym} → Dotted g i n before after → Does g i a deed → Doing g i a deed after
-doing_of dotted (shifts other) = shifting (dotted_once dotted other).2 refl
-doing_of dotted (reduces other own at is) = reducing (dotted_once dotted other).2 own at is
-doing_of dotted (accepts other last at) = accepting (dotted_once dotted other).2 last at refl
+done_behind : {g : Grammar} {i : Item} {n a : ℕ} {deed : Deed} {before after : List Sym} → Dotted g i n before after → Does g i a deed → DoneBehind g i a deed after
+done_behind dotted (shifts other) = shifting (dotted_once dotted other).2 refl
+done_behind dotted (reduces other own at is) = reducing (dotted_once dotted other).2 own at is
+done_behind dotted (accepts other last at) = accepting (dotted_once dotted other).2 last at refl
 
 module _ (g : Grammar) (e : Entry) (is : IsEntry g e) (a : ℕ) where
   abbrev Own : Item → Type 0
@@ -90,32 +90,32 @@ module _ (g : Grammar) (e : Entry) (is : IsEntry g e) (a : ℕ) where
           dot = sym parts.1 ∙ sym (length-take-le e.dot is.right is.dot);
         }
 
-    doing : (i : Item) (deed : Deed) → Own i → Does g i a deed → Doing g i a deed after
-    doing i deed own does = doing_of (dotted i own) does
+    done_at : (i : Item) (deed : Deed) → Own i → Does g i a deed → DoneBehind g i a deed after
+    done_at i deed own does = done_behind (dotted i own) does
 
   -- with a token behind the dot
   at_token : (b : ℕ) (rest : List Sym) → drop e.dot is.right ≡ Token b ∷ rest → (a ≡ b) ⊎ (a ≢ b) → Done g Own a
   at_token b rest behind (inl same) = one_deed Shift (item is.ahead, own, shifts (subst (λ c. Dotted g (item is.ahead) is.name (take e.dot is.right) (Token c ∷ rest)) (sym same) (dotted (Token b ∷ rest) behind (item is.ahead) own)))
-      (λ deed (i, has, does). only deed (doing (Token b ∷ rest) behind i deed has does))
+      (λ deed (i, has, does). only deed (done_at (Token b ∷ rest) behind i deed has does))
     where
       own : Own (item is.ahead)
       own = own_item is.ahead is.has
 
-      only : {i : Item} (deed : Deed) → Doing g i a deed (Token b ∷ rest) → deed ≡ Shift
+      only : {i : Item} (deed : Deed) → DoneBehind g i a deed (Token b ∷ rest) → deed ≡ Shift
       only deed (shifting at e) = e
       only deed (reducing at less ahead e) = absurd (cc)
       only deed (accepting at last end e) = absurd (cc)
-  at_token b rest behind (inr other) = nothing (λ deed (i, has, does). none (doing (Token b ∷ rest) behind i deed has does))
+  at_token b rest behind (inr other) = nothing (λ deed (i, has, does). none (done_at (Token b ∷ rest) behind i deed has does))
     where
-      none : {i : Item} {deed : Deed} → Doing g i a deed (Token b ∷ rest) → ⊥
+      none : {i : Item} {deed : Deed} → DoneBehind g i a deed (Token b ∷ rest) → ⊥
       none (shifting at e) = other (cc)
       none (reducing at less ahead e) = absurd (cc)
       none (accepting at last end e) = absurd (cc)
 
   at_name : (m : ℕ) (rest : List Sym) → drop e.dot is.right ≡ Name m ∷ rest → Done g Own a
-  at_name m rest behind = nothing (λ deed (i, has, does). none (doing (Name m ∷ rest) behind i deed has does))
+  at_name m rest behind = nothing (λ deed (i, has, does). none (done_at (Name m ∷ rest) behind i deed has does))
     where
-      none : {i : Item} {deed : Deed} → Doing g i a deed (Name m ∷ rest) → ⊥
+      none : {i : Item} {deed : Deed} → DoneBehind g i a deed (Name m ∷ rest) → ⊥
       none (shifting at e) = absurd (cc)
       none (reducing at less ahead e) = absurd (cc)
       none (accepting at last end e) = absurd (cc)
@@ -123,33 +123,33 @@ module _ (g : Grammar) (e : Entry) (is : IsEntry g e) (a : ℕ) where
   -- with the dot at the end: of a rule of the grammar, and of the augmented one
   at_end_own : drop e.dot is.right ≡ [] → e.rule < length g.rules → (has_token e.ahead a ≡ true) ⊎ (has_token e.ahead a ≡ false) → Done g Own a
   at_end_own behind less (inl has) = one_deed (Reduce e.rule) (item a, own_item a has, reduces (dotted [] behind (item a) (own_item a has)) less refl refl)
-      (λ deed (i, own, does). only i deed own (doing [] behind i deed own does))
+      (λ deed (i, own, does). only i deed own (done_at [] behind i deed own does))
     where
-      only : (i : Item) (deed : Deed) → Own i → Doing g i a deed [] → deed ≡ Reduce e.rule
+      only : (i : Item) (deed : Deed) → Own i → DoneBehind g i a deed [] → deed ≡ Reduce e.rule
       only i deed own (shifting at e) = absurd (cc)
       only i deed own (reducing at lower ahead is_reduce) = is_reduce ∙ ap Reduce (sym (entry_parts e i own).0)
       only i deed own (accepting at last end is_accept) = let rule = (entry_parts e i own).0 in absurd (omega arith)
-  at_end_own behind less (inr lacks) = nothing (λ deed (i, own, does). none i deed own (doing [] behind i deed own does))
+  at_end_own behind less (inr lacks) = nothing (λ deed (i, own, does). none i deed own (done_at [] behind i deed own does))
     where
-      none : (i : Item) (deed : Deed) → Own i → Doing g i a deed [] → ⊥
+      none : (i : Item) (deed : Deed) → Own i → DoneBehind g i a deed [] → ⊥
       none i deed own (shifting at e) = absurd (cc)
       none i deed own (reducing at lower ahead is_reduce) = false≢true (sym lacks ∙ ap (has_token e.ahead) (sym ahead) ∙ (entry_parts e i own).2)
       none i deed own (accepting at last end is_accept) = let rule = (entry_parts e i own).0 in absurd (omega arith)
 
   at_end_last : drop e.dot is.right ≡ [] → e.rule ≡ length g.rules → (a ≡ end_mark g) ⊎ (a ≢ end_mark g) → Done g Own a
   at_end_last behind last (inl end) = one_deed Accept (item is.ahead, own, accepts (dotted [] behind (item is.ahead) own) last end)
-      (λ deed (i, has, does). only i deed has (doing [] behind i deed has does))
+      (λ deed (i, has, does). only i deed has (done_at [] behind i deed has does))
     where
       own : Own (item is.ahead)
       own = own_item is.ahead is.has
 
-      only : (i : Item) (deed : Deed) → Own i → Doing g i a deed [] → deed ≡ Accept
+      only : (i : Item) (deed : Deed) → Own i → DoneBehind g i a deed [] → deed ≡ Accept
       only i deed has (shifting at e) = absurd (cc)
       only i deed has (reducing at lower ahead is_reduce) = let rule = (entry_parts e i has).0 in absurd (omega arith)
       only i deed has (accepting at rule there is_accept) = is_accept
-  at_end_last behind last (inr other) = nothing (λ deed (i, has, does). none i deed has (doing [] behind i deed has does))
+  at_end_last behind last (inr other) = nothing (λ deed (i, has, does). none i deed has (done_at [] behind i deed has does))
     where
-      none : (i : Item) (deed : Deed) → Own i → Doing g i a deed [] → ⊥
+      none : (i : Item) (deed : Deed) → Own i → DoneBehind g i a deed [] → ⊥
       none i deed has (shifting at e) = absurd (cc)
       none i deed has (reducing at lower ahead is_reduce) = let rule = (entry_parts e i has).0 in absurd (omega arith)
       none i deed has (accepting at rule there is_accept) = other there

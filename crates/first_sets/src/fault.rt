@@ -22,9 +22,9 @@ pub enum UselessFault {
 
 impl From<NoMemory> for UselessFault {
     ghost use Rattle.std.specs.Prelude.{◌≡◌};
-    ghost use Rattle.first_sets.specs.declared.fault.UselessFault.TheVariants.{NoMemory as Exhausted};
+    ghost use Rattle.first_sets.specs.declared.fault.UselessFault.TheVariants.{NoMemory as no_memory};
 
-    ghost from_gives = { λ _ fault. fault ≡ Exhausted };
+    ghost from_gives = { λ _ fault. fault ≡ no_memory };
 
     fn from(_error: NoMemory) -> UselessFault {
         UselessFault::NoMemory

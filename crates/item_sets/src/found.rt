@@ -1,5 +1,5 @@
 ghost use Rattle.std.specs.Prelude.{◌≡◌, ℕ, List, if◌then◌else◌, All, IfOk, OnErr, Some};
-ghost use Rattle.std.specs.Global.{Vec as Keys};
+ghost use Rattle.std.specs.Global.{Vec as Words};
 ghost use Rattle.grammar_data.specs.TokenSet.{IsTokenSet};
 ghost use Rattle.collection_data.specs.declared.entry.Entry.{Entry as Lookaheads};
 ghost use Rattle.item_sets.specs.Successors.{key_of};
@@ -38,7 +38,7 @@ pub fn note(
     key: Vec<u64>,
     state: StateId,
 ) -> Result<(), AllocError>
-    ensures noted { IfOk result (λ _. (other : Keys ℕ) → state_at found.new other.items
+    ensures noted { IfOk result (λ _. (other : Words ℕ) → state_at found.new other.items
         ≡ (if same_key key.items other.items then Some state else state_at found.old other.items)) }
     ensures kept { OnErr result (found.new.entries ≡ found.old.entries) }
 {

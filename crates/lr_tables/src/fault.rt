@@ -15,9 +15,9 @@ pub enum BuildFault {
 
 impl From<NoMemory> for BuildFault {
     ghost use Rattle.std.specs.Prelude.{◌≡◌};
-    ghost use Rattle.lr_tables.specs.declared.fault.BuildFault.TheVariants.{NoMemory as Exhausted};
+    ghost use Rattle.lr_tables.specs.declared.fault.BuildFault.TheVariants.{NoMemory as no_memory};
 
-    ghost from_gives = { λ _ fault. fault ≡ Exhausted };
+    ghost from_gives = { λ _ fault. fault ≡ no_memory };
 
     fn from(_error: NoMemory) -> BuildFault {
         BuildFault::NoMemory

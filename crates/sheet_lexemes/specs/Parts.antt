@@ -6,7 +6,7 @@ use Rattle.lexeme_theory.specs.declared.found.Found.TheVariants.{Lexeme as lexem
 use Rattle.lexeme_theory.specs.declared.found.FaultKind.{FaultKind}
 use Rattle.lexeme_theory.specs.declared.found.FaultKind.TheVariants.{BadByte, Syntax}
 use Rattle.lexeme_theory.specs.declared.begin.Begin.{Begin}
-use Rattle.lexeme_theory.specs.declared.begin.Begin.TheVariants.{Blank, LineComment, BlockComment, Name, Number, Fold, NumberOf, Quoted, Text as begins_text, Pattern, Directive, Mark, Single, BadByte as begins_bad_byte, Nothing}
+use Rattle.lexeme_theory.specs.declared.begin.Begin.TheVariants.{Blank, LineComment, BlockComment, Name, Number, Fold, NumberOf, Quoted, Text as text_begins, Pattern, Directive, Mark, Single, BadByte as bad_byte_begins, Nothing}
 use Rattle.lexeme_theory.specs.Texts.{is_closed, has_bad_byte}
 use Rattle.lexeme_theory.specs.Stands.{syntax_fault}
 use Rattle.sheet_lexemes.specs.declared.numbers.Digits.{Digits}
@@ -38,10 +38,10 @@ KeepsBytes Number = ⊥
 KeepsBytes Fold = ⊥
 KeepsBytes NumberOf = ⊥
 KeepsBytes Quoted = Unit {0}
-KeepsBytes begins_text = Unit {0}
+KeepsBytes text_begins = Unit {0}
 KeepsBytes Pattern = Unit {0}
 KeepsBytes Directive = ⊥
 KeepsBytes Mark = ⊥
 KeepsBytes (Single single) = ⊥
-KeepsBytes begins_bad_byte = ⊥
+KeepsBytes bad_byte_begins = ⊥
 KeepsBytes Nothing = ⊥
