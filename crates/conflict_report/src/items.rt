@@ -5,7 +5,7 @@ ghost use Rattle.item_theory.specs.Items.{IsItemOf};
 ghost use Rattle.report_theory.specs.Belonging.{IsConflictIn};
 
 use crate::printer::Printer;
-use crate::words::push_number;
+use block_writer::push_number;
 use grammar_faults::{Conflict, Item};
 use lr_base::NoMemory;
 use sheet_reader::Sheet;

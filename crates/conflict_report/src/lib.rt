@@ -9,4 +9,3 @@ mod words;
 pub use items::{conflict_text, item_text};
 pub use printer::Printer;
 pub use tables::{push_states_line, tables_text};
-pub use words::push_number;

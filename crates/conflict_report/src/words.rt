@@ -1,9 +1,9 @@
 //! Words of a printed line.
-ghost use Rattle.std.specs.Prelude.{◌≡◌, ◌++◌, decimal, OnOk};
+ghost use Rattle.std.specs.Prelude.{◌≡◌, ◌++◌, OnOk};
 ghost use Rattle.report_theory.specs.ItemTexts.{behind_space};
 ghost use Rattle.report_theory.specs.TableTexts.{last_number};
 
-use itoa::Buffer;
+use block_writer::push_number;
 use lr_base::NoMemory;
 
 /// Adds a space and a word.
@@ -12,15 +12,6 @@ pub fn push_word(text: &mut Vec<u8>, word: &[u8]) -> Result<(), NoMemory>
 {
     text.push(b' ')?;
     text.extend_from_slice(word)?;
-    Ok(())
-}
-
-/// Adds a number in decimal digits.
-pub fn push_number(text: &mut Vec<u8>, number: u64) -> Result<(), NoMemory>
-    ensures { OnOk result (text.new.items ≡ text.old.items ++ decimal number) }
-{
-    let mut digits = Buffer::new();
-    text.extend_from_slice(digits.format(number).as_bytes())?;
     Ok(())
 }
 

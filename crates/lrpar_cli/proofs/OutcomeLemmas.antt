@@ -3,9 +3,9 @@ use Rattle.std.proofs.Common.{◌≡◌, ℕ, zero, suc, List, [], ◌∷◌, �
 use Rattle.std.proofs.lemmas.Option.{same_Some}
 use Rattle.lr_base.specs.Outside.{ShelfSeen, SinkSeen, IsSameShelf, Takes, Rose, is_listed}
 use Rattle.lr_base.specs.Reading.{StandsUnder}
-use Rattle.program_texts.specs.Writing.{IsWritten, all_taken, part_taken, cut, nothing_taken, front_taken}
-use Rattle.program_texts.specs.declared.blocks.WriteFault.{WriteFault}
-use Rattle.program_texts.specs.declared.blocks.WriteFault.TheVariants.{Failed, NoMemory}
+use Rattle.writing_theory.specs.Writing.{IsWritten, all_taken, part_taken, cut, nothing_taken, front_taken}
+use Rattle.writing_theory.specs.declared.fault.WriteFault.{WriteFault}
+use Rattle.writing_theory.specs.declared.fault.WriteFault.TheVariants.{Failed, NoMemory}
 use Rattle.sheet_data.specs.Sheet.{Sheet}
 use Rattle.answer_theory.specs.declared.status.Status.{Status}
 use Rattle.answer_theory.specs.declared.status.Status.TheVariants.{Done}

@@ -7,9 +7,9 @@ use Rattle.scanning_theory.specs.Lines.{line_starts}
 use Rattle.sheet_data.specs.Sheet.{Sheet}
 use Rattle.sheet_theory.specs.Names.{token_names}
 use Rattle.sheet_theory.specs.TokenList.{token_list, listed_tokens}
-use Rattle.program_texts.specs.Writing.{nothing_taken, front_taken, IsWritten, all_taken, part_taken, cut}
-use Rattle.program_texts.specs.declared.blocks.WriteFault.{WriteFault}
-use Rattle.program_texts.specs.declared.blocks.WriteFault.TheVariants.{NoMemory}
+use Rattle.writing_theory.specs.Writing.{nothing_taken, front_taken, IsWritten, all_taken, part_taken, cut}
+use Rattle.writing_theory.specs.declared.fault.WriteFault.{WriteFault}
+use Rattle.writing_theory.specs.declared.fault.WriteFault.TheVariants.{NoMemory}
 
 -- nothing was written
 pub takes_nothing : (a : SinkSeen) → Takes a a []

@@ -2,8 +2,8 @@
 use Rattle.std.specs.Prelude.{◌≡◌, ℕ, List, [], Result, Ok, Err, ◌⊎◌}
 use Rattle.lr_base.specs.declared.reading.ReadFault.{ReadFault as Reading}
 use Rattle.lr_base.specs.declared.reading.ReadFault.TheVariants.{Failed as reading_failed, NoMemory as reading_spent}
-use Rattle.program_texts.specs.declared.blocks.WriteFault.{WriteFault as Writing}
-use Rattle.program_texts.specs.declared.blocks.WriteFault.TheVariants.{Failed as writing_failed, NoMemory as writing_spent}
+use Rattle.writing_theory.specs.declared.fault.WriteFault.{WriteFault as Writing}
+use Rattle.writing_theory.specs.declared.fault.WriteFault.TheVariants.{Failed as writing_failed, NoMemory as writing_spent}
 use Rattle.answer_theory.specs.declared.status.Status.{Status}
 use Rattle.answer_theory.specs.declared.status.Status.TheVariants.{Done, ReadFault, WriteFault, NoMemory}
 use Rattle.lrpar_cli.specs.declared.stop.Stop.{Stop}

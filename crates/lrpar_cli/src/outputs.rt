@@ -6,15 +6,16 @@ ghost use Rattle.scanning_theory.specs.Scan.{AreTokens};
 ghost use Rattle.sheet_theory.specs.ScanOrder.{scanning_of};
 ghost use Rattle.outline_theory.specs.Layout.{layout};
 ghost use Rattle.grammar_checks.specs.Building.{IsBuilt};
-ghost use Rattle.program_texts.specs.Writing.{IsWritten};
+ghost use Rattle.writing_theory.specs.Writing.{IsWritten};
 ghost use Rattle.answer_theory.specs.Work.{IsListOf, IsTablesText};
 ghost use Rattle.lrpar_cli.specs.Inputs.{IsReady};
 
 use crate::inputs::{Parsing, Scanned};
+use block_writer::WriteFault;
 use grammar_data::Token;
 use line_lexer::{Lines, lex_lines};
 use lr_base::{NoMemory, Sink, write_all};
-use program_texts::{WriteFault, write_list, write_tables};
+use program_texts::{write_list, write_tables};
 use sheet_reader::{Sheet, print_sheet};
 use std::alloc::Global;
 

@@ -3,8 +3,8 @@ ghost use Rattle.answer_theory.specs.Tasks.{long_text_text};
 ghost use Rattle.lrpar_cli.specs.Stops.{IsDueStop};
 
 use answer_theory::Status;
+use block_writer::WriteFault;
 use lr_base::{NoMemory, ReadFault};
-use program_texts::WriteFault;
 use sheet_data::Bytes;
 use std::alloc::Global;
 use thiserror::Error;

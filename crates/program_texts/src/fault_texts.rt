@@ -4,7 +4,7 @@ ghost use Rattle.grammar_faults.specs.Building.{IsFaultOf, IsShown};
 ghost use Rattle.report_theory.specs.ItemTexts.{conflict_text as text_of_conflict};
 ghost use Rattle.report_theory.specs.FaultTexts.{said_on, kind_name, limit_said, fault_text as text_of_fault, name_said, name_in, grammar_text as text_of_grammar};
 
-use crate::token_list::push_number;
+use block_writer::push_number;
 use conflict_report::conflict_text;
 use grammar_faults::{Conflict, GrammarFault};
 use lr_base::{NameId, NoMemory};

@@ -1,12 +1,10 @@
 //! The printed texts of the program: what is said of faults, and the lists and tables that are written in blocks.
 #![tactic(auto)]
 
-mod blocks;
 mod fault_texts;
 mod table_list;
 mod token_list;
 
-pub use blocks::{Blocks, WriteFault};
 pub use fault_texts::{fault_text, grammar_text};
 pub use table_list::write_tables;
 pub use token_list::write_list;

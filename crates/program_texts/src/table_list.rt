@@ -3,9 +3,9 @@ ghost use Rattle.std.specs.Prelude.{◌≡◌};
 ghost use Rattle.lr_base.specs.Outside.{IsSameSink};
 ghost use Rattle.report_theory.specs.Belonging.{BelongTo};
 ghost use Rattle.report_theory.specs.TableTexts.{tables_text};
-ghost use Rattle.program_texts.specs.Writing.{IsWritten};
+ghost use Rattle.writing_theory.specs.Writing.{IsWritten};
 
-use crate::blocks::{Blocks, WriteFault};
+use block_writer::{Blocks, WriteFault};
 use conflict_report::{Printer, push_states_line};
 use item_sets::Collection;
 use lr_base::{Sink, StateId};

@@ -2,26 +2,17 @@
 ghost use Rattle.std.specs.Prelude.{◌≡◌, ◌+◌, ◌-◌, ◌++◌, ◌∷◌, [], decimal, OnOk, unwrap_or, slice_get, slice_index};
 ghost use Rattle.sheet_theory.specs.TokenList.{token_line, end_line, listed_tokens};
 ghost use Rattle.lr_base.specs.Outside.{IsSameSink};
-ghost use Rattle.program_texts.specs.Writing.{IsWritten};
+ghost use Rattle.writing_theory.specs.Writing.{IsWritten};
 
-use crate::blocks::{Blocks, WriteFault};
+use block_writer::{Blocks, WriteFault, push_number};
 use grammar_data::{Place, Token, TokenId};
-use itoa::Buffer;
 use line_lexer::Lines;
-use lr_base::Sink;
+use lr_base::{NoMemory, Sink};
 use sheet_data::Bytes;
-use std::alloc::{AllocError, Global};
-
-/// Adds a number in decimal digits.
-pub fn push_number(list: &mut Vec<u8>, number: u64) -> Result<(), AllocError>
-    ensures { OnOk result (list.new.items ≡ list.old.items ++ decimal number) }
-{
-    let mut digits = Buffer::new();
-    list.extend_from_slice(digits.format(number).as_bytes())
-}
+use std::alloc::Global;
 
 /// Adds a number and a space.
-fn push_column(list: &mut Vec<u8>, number: u64) -> Result<(), AllocError>
+fn push_column(list: &mut Vec<u8>, number: u64) -> Result<(), NoMemory>
     ensures { OnOk result (list.new.items ≡ list.old.items ++ (decimal number ++ 32 ∷ [])) }
 {
     push_number(list, number)?;
@@ -30,13 +21,14 @@ fn push_column(list: &mut Vec<u8>, number: u64) -> Result<(), AllocError>
 }
 
 /// Adds the printed name of the token of this number, if it has one.
-fn push_name(list: &mut Vec<u8>, names: &[Bytes], id: TokenId) -> Result<(), AllocError>
+fn push_name(list: &mut Vec<u8>, names: &[Bytes], id: TokenId) -> Result<(), NoMemory>
     ensures { OnOk result (list.new.items ≡ list.old.items ++ unwrap_or (slice_get names.now id) []) }
 {
     match names.get(id.0 as usize) {
-        Some(name) => list.extend_from_slice(name.as_slice()),
-        None => Ok(()),
+        Some(name) => list.extend_from_slice(name.as_slice())?,
+        None => {}
     }
+    Ok(())
 }
 
 /// Where a line begins, counted from 0; 0 for a line that isn't there.
@@ -64,7 +56,7 @@ fn push_token(
     names: &[Bytes],
     lines: &Lines,
     token: &Token,
-) -> Result<(), AllocError>
+) -> Result<(), NoMemory>
     ensures { OnOk result (list.new.items ≡ list.old.items ++ token_line names.now lines.now token.now) }
 {
     let place = token.place;
@@ -77,11 +69,12 @@ fn push_token(
 }
 
 /// Adds the line of the end of the text.
-fn push_end(list: &mut Vec<u8>, lines: &Lines) -> Result<(), AllocError>
+fn push_end(list: &mut Vec<u8>, lines: &Lines) -> Result<(), NoMemory>
     ensures { OnOk result (list.new.items ≡ list.old.items ++ end_line lines.now) }
 {
     push_number(list, u64::from(lines.end_line()))?;
-    list.extend_from_slice(b" end of text\n")
+    list.extend_from_slice(b" end of text\n")?;
+    Ok(())
 }
 
 /// Writes the token list, where `names` are the printed names of the tokens by number.

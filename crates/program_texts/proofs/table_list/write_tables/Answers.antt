@@ -1,8 +1,8 @@
 use Rattle.std.proofs.Common.{◌≡◌, refl, sym, [], append-nil, rules, arith}
 use Rattle.report_theory.specs.TableTexts.{state_text, states_line, tables_text}
-use Rattle.program_texts.specs.Writing.{IsWritten, all_taken, part_taken, cut, nothing_taken}
-use Rattle.program_texts.specs.declared.blocks.WriteFault.TheVariants.{Failed, NoMemory}
-use Rattle.program_texts.proofs.BlockLemmas.{takes_nothing, passes_more, fails_behind, all_passed, cut_behind, err_at}
+use Rattle.writing_theory.specs.Writing.{IsWritten, all_taken, part_taken, cut, nothing_taken}
+use Rattle.writing_theory.specs.declared.fault.WriteFault.TheVariants.{Failed, NoMemory}
+use Rattle.writing_theory.proofs.BlockLemmas.{takes_nothing, passes_more, fails_behind, all_passed, cut_behind, err_at}
 use Rattle.program_texts.proofs.TableListLemmas.{so_far, one_state, around_state}
 use Rattle.program_texts.proofs.table_list.write_tables.Goals as goal
 

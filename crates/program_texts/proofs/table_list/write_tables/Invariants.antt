@@ -1,7 +1,7 @@
 use Rattle.std.proofs.Common.{[]}
 use Rattle.lr_base.specs.Outside.{IsSameSink}
 use Rattle.report_theory.specs.TableTexts.{state_text, states_line}
-use Rattle.program_texts.specs.Writing.{Passes}
+use Rattle.writing_theory.specs.Writing.{Passes}
 use Rattle.program_texts.proofs.TableListLemmas.{so_far}
 use Rattle.program_texts.proofs.table_list.write_tables.Given as goal
 

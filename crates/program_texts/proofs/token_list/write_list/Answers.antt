@@ -1,9 +1,9 @@
 use Rattle.std.proofs.Common.{refl, sym, ap, ◌∙◌, ◌++◌, take, append-nil, rules, arith}
 use Rattle.std.specs.List.{flat_map}
 use Rattle.sheet_theory.specs.TokenList.{token_line, end_line, listed_tokens}
-use Rattle.program_texts.specs.Writing.{IsWritten, all_taken, part_taken}
-use Rattle.program_texts.specs.declared.blocks.WriteFault.TheVariants.{Failed, NoMemory}
-use Rattle.program_texts.proofs.BlockLemmas.{passes_more, fails_behind, all_passed, cut_behind, around_item, one_more, all_lines, err_at}
+use Rattle.writing_theory.specs.Writing.{IsWritten, all_taken, part_taken}
+use Rattle.writing_theory.specs.declared.fault.WriteFault.TheVariants.{Failed, NoMemory}
+use Rattle.writing_theory.proofs.BlockLemmas.{passes_more, fails_behind, all_passed, cut_behind, around_item, one_more, all_lines, err_at}
 use Rattle.program_texts.proofs.token_list.write_list.Goals as goal
 
 pub returns-in_err-push_token-clause-written : goal.returns-in_err-push_token-clause-written

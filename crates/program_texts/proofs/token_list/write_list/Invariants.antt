@@ -2,7 +2,7 @@ use Rattle.std.proofs.Common.{[], take}
 use Rattle.std.specs.List.{flat_map}
 use Rattle.lr_base.specs.Outside.{IsSameSink}
 use Rattle.sheet_theory.specs.TokenList.{token_line}
-use Rattle.program_texts.specs.Writing.{Passes}
+use Rattle.writing_theory.specs.Writing.{Passes}
 use Rattle.program_texts.proofs.token_list.write_list.Given as goal
 
 abbrev pub invariant-loop-token : goal.invariant-loop-token

@@ -1,55 +1,12 @@
 ghost use Rattle.std.specs.Prelude.{◌≡◌, [], OnErr, OnOk};
 ghost use Rattle.lr_base.specs.Outside.{Fails, IsSameSink, Takes};
-ghost use Rattle.program_texts.specs.Writing.{Passes};
+ghost use Rattle.writing_theory.specs.Writing.{Passes};
 
-use lr_base::{Failed, NoMemory, Sink, write_all};
-use std::alloc::{AllocError, Global};
-use thiserror::Error;
+use lr_base::{Failed, Sink, write_all};
+use std::alloc::Global;
 
 /// How many bytes are gathered before they are written.
 const BLOCK_BYTES: usize = 65_536;
-
-/// Why a text was not written whole.
-#[derive(Clone, Copy, Debug, PartialEq, Eq, Error)]
-pub enum WriteFault {
-    #[error("the text can't be written")]
-    Failed,
-    #[error("no memory")]
-    NoMemory,
-}
-
-impl From<AllocError> for WriteFault {
-    ghost use Rattle.std.specs.Prelude.{◌≡◌};
-    ghost use Rattle.program_texts.specs.declared.blocks.WriteFault.TheVariants.{NoMemory};
-
-    ghost from_gives = { λ _ fault. fault ≡ NoMemory };
-
-    fn from(_error: AllocError) -> WriteFault {
-        WriteFault::NoMemory
-    }
-}
-
-impl From<NoMemory> for WriteFault {
-    ghost use Rattle.std.specs.Prelude.{◌≡◌};
-    ghost use Rattle.program_texts.specs.declared.blocks.WriteFault.TheVariants.{NoMemory};
-
-    ghost from_gives = { λ _ fault. fault ≡ NoMemory };
-
-    fn from(_error: NoMemory) -> WriteFault {
-        WriteFault::NoMemory
-    }
-}
-
-impl From<Failed> for WriteFault {
-    ghost use Rattle.std.specs.Prelude.{◌≡◌};
-    ghost use Rattle.program_texts.specs.declared.blocks.WriteFault.TheVariants.{Failed};
-
-    ghost from_gives = { λ _ fault. fault ≡ Failed };
-
-    fn from(_failed: Failed) -> WriteFault {
-        WriteFault::Failed
-    }
-}
 
 /// A text on its way to a sink: its bytes are gathered, and written in blocks.
 #[derive(Drop)]

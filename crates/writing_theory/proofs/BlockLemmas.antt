@@ -7,8 +7,8 @@ use Rattle.std.proofs.lemmas.List.{take-append-drop, take_more, take-append-le, 
 use Rattle.std.proofs.Math.Seq.{take-append-add, drop-cons}
 use Rattle.std.proofs.lemmas.List.Concat.{flat_map-append}
 use Rattle.lr_base.specs.Outside.{SinkSeen, Rose, AppendsPart, Takes, Fails}
-use Rattle.program_texts.specs.Writing.{Passes, IsWritten, cut, front_taken}
-use Rattle.program_texts.specs.declared.blocks.WriteFault.TheVariants.{NoMemory}
+use Rattle.writing_theory.specs.Writing.{Passes, IsWritten, cut, front_taken}
+use Rattle.writing_theory.specs.declared.fault.WriteFault.TheVariants.{NoMemory}
 
 -- nothing was written yet
 pub takes_nothing : (a : SinkSeen) → Takes a a []

@@ -1,8 +1,8 @@
 -- How the writing of a text may come out, and what was gathered and taken of one that is written in blocks.
 use Rattle.std.specs.Prelude.{◌≡◌, List, ℕ, [], ◌++◌, Result, Ok, Err}
 use Rattle.lr_base.specs.Outside.{SinkSeen, Takes, Fails}
-use Rattle.program_texts.specs.declared.blocks.WriteFault.{WriteFault}
-use Rattle.program_texts.specs.declared.blocks.WriteFault.TheVariants.{Failed, NoMemory}
+use Rattle.writing_theory.specs.declared.fault.WriteFault.{WriteFault}
+use Rattle.writing_theory.specs.declared.fault.WriteFault.TheVariants.{Failed, NoMemory}
 
 -- what was gathered before, and then the text, is what the sink took and then what is gathered now
 pub record Passes (before after : SinkSeen) (old new text : List ℕ) : Type 0 where
