@@ -1,6 +1,6 @@
 use Rattle.std.proofs.Common.{◌∙◌}
-use Rattle.program_texts.specs.Writing.{IsWritten, all_taken, part_taken}
-use Rattle.program_texts.specs.declared.blocks.WriteFault.TheVariants.{Failed}
+use Rattle.writing_theory.specs.Writing.{IsWritten, all_taken, part_taken}
+use Rattle.writing_theory.specs.declared.fault.WriteFault.TheVariants.{Failed}
 use Rattle.lrpar_cli.proofs.OutputLemmas.{err_at, not_written}
 use Rattle.lrpar_cli.proofs.outputs.write_layout.Goals as goal
 
