@@ -1,0 +1,4 @@
+pub mod KidLemmas
+pub mod PendingLemmas
+pub mod UnderwayLemmas
+pub mod RuleLemmas

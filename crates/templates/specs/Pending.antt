@@ -1,0 +1,36 @@
+-- What is still to be written of a tree: the nodes whose templates were begun and not ended, each inside the one before it.
+use Rattle.std.specs.Prelude.{◌≡◌, ℕ, List, [], ◌∷◌, ◌++◌}
+use Rattle.grammar_theory.specs.Trees.{Forest}
+use Rattle.templates.specs.Sources.{Source, AreKids, all_given}
+use Rattle.templates.specs.declared.frame.Frame.{Frame}
+
+-- the rest of a begun template gives the bytes
+pub record Gives (source : Source) (frame : Frame) (bytes : List ℕ) : Type 0 where
+  pub trees : Forest
+  pub kids : AreKids source frame.kids.now trees
+  pub is : bytes ≡ all_given source trees frame.parts.now
+
+-- the rests of begun templates give the bytes, the last one's first
+pub data Pending (source : Source) : List Frame → List ℕ → Type 0 where
+  all_ended : Pending source [] []
+  one_begun : {frame : Frame} {frames : List Frame} {own inner bytes : List ℕ} → Gives source frame own → Pending source frames inner → bytes ≡ inner ++ own → Pending source (frame ∷ frames) bytes
+
+abbrev pub IsPending : Source → List Frame → Type 0
+IsPending source frames = (bytes : List ℕ) × Pending source frames bytes
+
+-- of some bytes the first are gathered behind what was gathered before, and the others are what is pending now
+pub record Goes (source : Source) (frames : List Frame) (before after bytes : List ℕ) : Type 0 where
+  pub added : List ℕ
+  pub rest : List ℕ
+  pub gathered : after ≡ before ++ added
+  pub pending : Pending source frames rest
+  pub joined : bytes ≡ added ++ rest
+
+-- whatever was pending, the first of its bytes are gathered, and the others are what is pending now
+abbrev pub GoesOn : Source → List Frame → List Frame → List ℕ → List ℕ → Type 0
+GoesOn source frames now before after = (bytes : List ℕ) → Pending source frames bytes → Goes source now before after bytes
+
+-- one more node's bytes: they are gathered, or its template is begun
+pub data Unfolds (source : Source) (frames now : List Frame) (before after bytes : List ℕ) : Type 0 where
+  gathered : now ≡ frames → after ≡ before ++ bytes → Unfolds source frames now before after bytes
+  begun : {frame : Frame} → now ≡ frames ++ frame ∷ [] → Gives source frame bytes → after ≡ before → Unfolds source frames now before after bytes
