@@ -113,6 +113,7 @@ module _ {g : Grammar} {t : Tables} (lawful : IsLawfulFor g t) {tokens : List Te
         shown = λ n i. subst (λ k. Shows (store_of run.store) [] n i k alone.0.tree) (same_kid (sym shown.1 ∙ one)) (shown.2 n i);
         is_tree = is.0;
         yields = is.1;
+        chunks = at.chunks;
         count = count;
         bound = λ longest largest bounds. subst (λ k. node_count_in run.store ≤ 2 * g.names * (1 + longest * largest) * (k + 1)) (ap (λ (l : List TextToken). length l) is.1) (subst (λ k. k ≤ 2 * g.names * (1 + longest * largest) * (length (yield alone.0.tree) + 1)) (sym count) (tree_bound_law g t longest largest lawful bounds g.start alone.0.tree lawful.range.start is.0));
       }

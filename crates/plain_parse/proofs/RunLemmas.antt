@@ -7,8 +7,7 @@ use Rattle.grammar_data.specs.declared.token.Token.{Token as TextToken}
 use Rattle.grammar_theory.specs.Trees.{Forest, NoTree, FirstTree, nodes, nodes_of, token_tree}
 use Rattle.table_data.specs.declared.act.Act.TheVariants.{Shift, Reduce}
 use Rattle.table_data.specs.Tables.{Tables, act_in, goto_in, shift_of}
-use Rattle.machine_theory.specs.Machine.{Entry, top, forest_onto, IsStack, bottom, pushed, shifted, reduced, Reaches, here, after_reduction, after_shift}
-use Rattle.machine_theory.specs.Machine.{Reduces as MachineReduces}
+use Rattle.machine_theory.specs.Machine.{Entry, top, forest_onto, IsStack, bottom, pushed, shifted, reduced, Reduces, Reaches, here, after_reduction, after_shift}
 use Rattle.machine_theory.proofs.RunLemmas.{reaches_then}
 use Rattle.machine_theory.proofs.StackLemmas.{length-symbols}
 use Rattle.lawful_theory.specs.Lawful.{IsLawful}
@@ -17,9 +16,9 @@ use Rattle.node_data.specs.declared.kid.Kid.{Kid}
 use Rattle.node_data.specs.declared.kid.Kid.TheVariants.{Token as TokenKid}
 use Rattle.tree_theory.specs.Stores.{Ref, Store, Shows, shows_token, shows_node, ShowsAll, shows_none, shows_more}
 use Rattle.tree_theory.proofs.ShownLemmas.{grow_law}
-use Rattle.node_store.specs.Chunks.{HasChunk, node_count_in, store_of}
+use Rattle.node_store.specs.Chunks.{node_count_in, numbers_in, store_of}
 use Rattle.plain_parse.specs.declared.run.Run.{Run}
-use Rattle.plain_parse.specs.Runs.{end_of, input_of, token_of, states_of, nodes_on, ShowsStack, shows_bottom, shows_entry, IsRun, IsStart, top_of, Reduces, IsReducible, IsReduced}
+use Rattle.plain_parse.specs.Runs.{end_of, input_of, token_of, states_of, nodes_on, ShowsStack, shows_bottom, shows_entry, IsRun, IsStart, top_of, FitsReduction, IsReducible, IsReduced}
 
 -- ---- lists of states
 
@@ -155,7 +154,7 @@ started t tokens run start = record {
   states = start.states;
   shown = subst (λ (l : List Kid). ShowsStack (store_of run.store) [] l) (sym start.kids) shows_bottom;
   count = start.count;
-  chunk = start.chunk;
+  chunks = start.chunks;
   reached = here;
 }
 
@@ -174,7 +173,7 @@ run_shifted t tokens index run next token p at within is act states kids store =
       states = states ∙ ap (λ l. l ++ p ∷ []) at.states;
       shown = shows_entry (subst (λ s. ShowsStack (store_of s) at.stack run.kids.items) (sym store) at.shown) (λ n i. shows_token) kids;
       count = ap node_count_in store ∙ at.count ∙ plus_zero (nodes_on at.stack);
-      chunk = subst (λ s. HasChunk s 0) (sym store) at.chunk;
+      chunks = ap numbers_in store ∙ at.chunks;
       reached = subst (λ k. Reaches t 0 [] (input_of t tokens) (shifted token p ∷ at.stack) (drop k (input_of t tokens))) (one_more index) (shift_reached at.reached (front t tokens index (omega arith) ∙ ap (λ (x : TextToken). x ∷ drop (suc index) (input_of t tokens)) there) acts);
     }
   where
@@ -223,7 +222,7 @@ taken_at {run = run} at taken rest size parts count =
       upper = kids.1;
     }
 
-reduce_reached : {t : Tables} {all u : List TextToken} {stack next : List Entry} {token : TextToken} {v : List TextToken} → Reaches t 0 [] all stack u → u ≡ token ∷ v → MachineReduces t 0 token.id stack next → Reaches t 0 [] all next u
+reduce_reached : {t : Tables} {all u : List TextToken} {stack next : List Entry} {token : TextToken} {v : List TextToken} → Reaches t 0 [] all stack u → u ≡ token ∷ v → Reduces t 0 token.id stack next → Reaches t 0 [] all next u
 reduce_reached {t} {all} {u} {stack} {next} {token} {v} run e move = subst (λ l. Reaches t 0 [] all next l) (sym e) (reaches_then (subst (λ l. Reaches t 0 [] all stack l) e run) (after_reduction move here))
 
 module _ {t : Tables} (lawful : IsLawful t) {tokens : List TextToken} {index : ℕ} {run : Run} (at : IsRun t tokens index run) (within : index ≤ length tokens) {r : ℕ} (act : act_in t (top_of run) (token_of t tokens index) ≡ Reduce r) where
@@ -239,7 +238,7 @@ module _ {t : Tables} (lawful : IsLawful t) {tokens : List TextToken} {index : �
   rest_stack : {e : Entry} → IsStack t 0 (e ∷ by.rest) → IsStack t 0 by.rest
   rest_stack (pushed is tree step) = is
 
-  fits : Reduces t r run (length by.right) by.state
+  fits : FitsReduction t r run (length by.right) by.state
   fits = record {
     name = by.name;
     right = by.right;
@@ -249,7 +248,7 @@ module _ {t : Tables} (lawful : IsLawful t) {tokens : List TextToken} {index : �
     level = level at;
     within = subst (λ q. q < t.states) (sym taken_is.from) (lawful.1.within by.rest (rest_stack by.stack));
     goes = ap (λ q. goto_in t q by.name) taken_is.from ∙ by.goes;
-    chunk = at.chunk;
+    chunks = at.chunks;
   }
 
   pub reducible : IsReducible t r run
@@ -267,7 +266,7 @@ module _ {t : Tables} (lawful : IsLawful t) {tokens : List TextToken} {index : �
         states = made.states ∙ ap (λ (l : List ℕ). l ++ by.state ∷ []) taken_is.states;
         shown = shows_entry (stack_grown (store_of next.store) made.stores.kept taken_is.lower) (λ n i. shows_node (drop (length run.kids.items - length by.right) run.kids.items) made.stores.some (all_grown made.node)) made.kids;
         count = count_of (nodes_of (forest_onto by.taken NoTree)) (nodes_on by.taken) (nodes_on by.rest) made.count at.count (same ∙ both) forest;
-        chunk = made.chunk;
+        chunks = made.chunks;
         reached = reduce_reached at.reached (front t tokens index within) by.move;
       }
     where
@@ -277,9 +276,9 @@ module _ {t : Tables} (lawful : IsLawful t) {tokens : List TextToken} {index : �
       all_grown : (m : Ref) → ShowsAll (store_of next.store) [] m 0 (drop (length run.kids.items - length by.right) run.kids.items) (forest_onto by.taken NoTree)
       all_grown m = grown_all (store_of next.store) made.stores.kept (taken_is.upper m)
 
-  pub run_reduced : (next : Run) → ((size state : ℕ) → Reduces t r run size state → IsReduced r size state run next) → IsRun t tokens index next
+  pub run_reduced : (next : Run) → ((size state : ℕ) → FitsReduction t r run size state → IsReduced r size state run next) → IsRun t tokens index next
   run_reduced next made = run_reduced_by next (made (length by.right) by.state fits)
 
   -- there is one node more, and room for it
-  pub one_node_more : (next : Run) → ((size state : ℕ) → Reduces t r run size state → IsReduced r size state run next) → 2 ^ 64 - node_count_in next.store < 2 ^ 64 - node_count_in run.store
+  pub one_node_more : (next : Run) → ((size state : ℕ) → FitsReduction t r run size state → IsReduced r size state run next) → 2 ^ 64 - node_count_in next.store < 2 ^ 64 - node_count_in run.store
   one_node_more next made = let by_one = made (length by.right) by.state fits in omega (arith, by_one.count, by_one.few)

@@ -9,7 +9,7 @@ use Rattle.grammar_theory.specs.Trees.{Tree, IsTree, yield, nodes, ids_of}
 use Rattle.next_theory.specs.GoingOn.{token_at}
 use Rattle.node_bounds.specs.NodeBounds.{AreBounds}
 use Rattle.node_data.specs.declared.kid.Kid.TheVariants.{Node as NodeKid}
-use Rattle.node_store.specs.Chunks.{Chunk, node_count_in, store_of}
+use Rattle.node_store.specs.Chunks.{Chunk, node_count_in, numbers_in, store_of}
 use Rattle.parse_theory.specs.Parses.{IsWrongIn}
 use Rattle.table_data.specs.Tables.{Tables}
 use Rattle.tree_theory.specs.Stores.{Ref, Shows}
@@ -21,13 +21,14 @@ use Rattle.plain_parse.specs.declared.parsed.Parsed.TheVariants.{Tree as IsTreeA
 abbrev pub AreTextTokens : Tables → List TextToken → Type 0
 AreTextTokens t tokens = All (λ (token : TextToken). (token.id ≤ t.tokens + 1) × (token.id ≢ t.tokens)) tokens
 
--- the root shows, with nothing supplied, a tree of the start that yields the tokens; the store has the nodes of this tree
--- alone, and they are bounded by the grammar and the number of tokens
+-- the root shows, with nothing supplied, a tree of the start that yields the tokens; the store has chunk 0 and no other, and
+-- in it the nodes of this tree alone, which are bounded by the grammar and the number of tokens
 pub record IsTreeOf (g : Grammar) (tokens : List TextToken) (root : Ref) (store : List Chunk) : Type 0 where
   pub tree : Tree
   pub shown : (n : Ref) (i : ℕ) → Shows (store_of store) [] n i (NodeKid root) tree
   pub is_tree : IsTree g.rules (Name g.start) tree
   pub yields : yield tree ≡ tokens
+  pub chunks : numbers_in store ≡ 0 ∷ []
   pub count : node_count_in store ≡ nodes tree
   pub bound : (longest largest : ℕ) → AreBounds g longest largest → node_count_in store ≤ 2 * g.names * (1 + longest * largest) * (length tokens + 1)
 

@@ -15,7 +15,7 @@ use Rattle.machine_theory.specs.Machine.{Entry, IsStack, Reaches}
 use Rattle.node_data.specs.declared.kid.Kid.{Kid}
 use Rattle.node_data.specs.declared.kid.Kid.TheVariants.{Node as NodeKid}
 use Rattle.tree_theory.specs.Stores.{Ref, Store, Shows}
-use Rattle.node_store.specs.Chunks.{HasChunk, StoresNode, node_count_in, store_of}
+use Rattle.node_store.specs.Chunks.{StoresNode, node_count_in, numbers_in, store_of}
 use Rattle.plain_parse.specs.declared.run.Run.{Run}
 
 -- the end mark as a token of the input; its place says nothing
@@ -52,7 +52,7 @@ pub record IsRun (t : Tables) (tokens : List TextToken) (index : ℕ) (run : Run
   pub states : run.states.items ≡ states_of stack
   pub shown : ShowsStack (store_of run.store) stack run.kids.items
   pub count : node_count_in run.store ≡ nodes_on stack
-  pub chunk : HasChunk run.store 0
+  pub chunks : numbers_in run.store ≡ 0 ∷ []
   pub reached : Reaches t 0 [] (input_of t tokens) stack (drop index (input_of t tokens))
 
 -- a parse that has read nothing
@@ -60,7 +60,7 @@ pub record IsStart (run : Run) : Type 0 where
   pub states : run.states.items ≡ 0 ∷ []
   pub kids : run.kids.items ≡ []
   pub count : node_count_in run.store ≡ 0
-  pub chunk : HasChunk run.store 0
+  pub chunks : numbers_in run.store ≡ 0 ∷ []
 
 -- the state on top
 abbrev pub top_of : Run → ℕ
@@ -72,7 +72,7 @@ pub record IsSettled (t : Tables) (tokens : List TextToken) (index : ℕ) (run :
   pub no_reduction : (r : ℕ) → act ≢ Reduce r
 
 -- the lists fit a reduction by a rule that has so many symbols on its right side, and that leads to this state
-pub record Reduces (t : Tables) (r : ℕ) (run : Run) (size state : ℕ) : Type 0 where
+pub record FitsReduction (t : Tables) (r : ℕ) (run : Run) (size state : ℕ) : Type 0 where
   pub name : ℕ
   pub right : List Sym
   pub rule : IsRule t.rules r name right
@@ -81,10 +81,10 @@ pub record Reduces (t : Tables) (r : ℕ) (run : Run) (size state : ℕ) : Type 
   pub level : length run.states.items ≡ length run.kids.items + 1
   pub within : slice_index run.states.items (length run.kids.items - size) < t.states
   pub goes : goto_in t (slice_index run.states.items (length run.kids.items - size)) name ≡ Some state
-  pub chunk : HasChunk run.store 0
+  pub chunks : numbers_in run.store ≡ 0 ∷ []
 
 abbrev pub IsReducible : Tables → ℕ → Run → Type 0
-IsReducible t r run = (size : ℕ) × (state : ℕ) × Reduces t r run size state
+IsReducible t r run = (size : ℕ) × (state : ℕ) × FitsReduction t r run size state
 
 -- a reduction was made: a node by the rule has the kids on top as its kids, in their order
 pub record IsReduced (r size state : ℕ) (old new : Run) : Type 0 where
@@ -94,11 +94,11 @@ pub record IsReduced (r size state : ℕ) (old new : Run) : Type 0 where
   pub stores : StoresNode (store_of old.store) (store_of new.store) r (drop (length old.kids.items - size) old.kids.items) node
   pub count : node_count_in new.store ≡ node_count_in old.store + 1
   pub few : node_count_in old.store < 2 ^ 64 - 1
-  pub chunk : HasChunk new.store 0
+  pub chunks : numbers_in new.store ≡ 0 ∷ []
 
 -- the reduction by the rule that fits was made
 abbrev pub IsReducedBy : Tables → ℕ → Run → Run → Type 0
-IsReducedBy t r old new = (size state : ℕ) → Reduces t r old size state → IsReduced r size state old new
+IsReducedBy t r old new = (size state : ℕ) → FitsReduction t r old size state → IsReduced r size state old new
 
 -- one kid is left, which is a node
 abbrev pub HasRoot : Run → Type 0
