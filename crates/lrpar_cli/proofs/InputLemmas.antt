@@ -1,6 +1,7 @@
 -- What was read for a command, and why a reading stopped.
 use Rattle.std.proofs.Common.{◌≡◌, ◌≢◌, ℕ, ◌+◌, ◌<◌, List, length, Option, Some, None, IfSome, Result, Ok, Err, IfOk, IfErr, refl, sym, ap, subst, arith, length-append, inl, inr}
 use Rattle.std.specs.Io.KnownBytes.{Consumes}
+use Rattle.lr_base.specs.declared.limits.TheConstants.{SHEET_BYTES}
 use Rattle.lr_base.specs.Outside.{ShelfSeen}
 use Rattle.lr_base.specs.Reading.{IsThere, StandsUnder, IsTooLong}
 use Rattle.outline_data.specs.declared.fault.LimitKind.TheVariants.{SheetBytes}
