@@ -16,15 +16,18 @@ use std::alloc::Global;
 /// is one of the tables' or the bad byte, and none is the end mark.
 ///
 /// `Tree` comes exactly where the tokens are a sentence, and `Wrong` exactly where they aren't. The nodes of the tree stand in
-/// chunk 0, and the store has no other. The time grows with the number of tokens and nodes, and the memory is at most 24 bytes a
-/// token that is open, 16 a node and 16 a kid, beside the lists' spare room.
+/// chunk 0, and the store has no other. The time grows with the number of tokens and nodes; an entry of the stack takes 20 bytes,
+/// a node 16 and a kid 16, beside the lists' spare room. Nothing is allocated a token or a node but by the lists that grow.
 pub fn parse_one(alloc: Global, tables: &Tables, tokens: &[Token]) -> Result<Parsed, NoMemory>
     requires lawful { IsLawful tables.now }
     requires few { length tokens.now ≤ TEXT_BYTES }
     requires tokens { AreTextTokens tables.now tokens.now }
-    ensures parsed { IfOk result (λ parsed. (g : Grammar) → IsLawfulFor g tables.now → IsParsed g tables.now tokens.now parsed) }
-    ensures tree { IfOk result (λ parsed. (g : Grammar) → IsLawfulFor g tables.now → HasTree parsed ↔ IsSentence g (ids_of tokens.now)) }
-    ensures wrong { IfOk result (λ parsed. (g : Grammar) → IsLawfulFor g tables.now → (¬ (HasTree parsed)) ↔ (¬ (IsSentence g (ids_of tokens.now)))) }
+    ensures parsed { IfOk result (λ parsed. (g : Grammar) → IsLawfulFor g tables.now
+        → IsParsed g tables.now tokens.now parsed) }
+    ensures tree { IfOk result (λ parsed. (g : Grammar) → IsLawfulFor g tables.now
+        → HasTree parsed ↔ IsSentence g (ids_of tokens.now)) }
+    ensures wrong { IfOk result (λ parsed. (g : Grammar) → IsLawfulFor g tables.now
+        → (¬ (HasTree parsed)) ↔ (¬ (IsSentence g (ids_of tokens.now)))) }
 {
     tables.holds();
     let mut run = Run::new(alloc)?;

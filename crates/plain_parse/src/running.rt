@@ -98,6 +98,7 @@ impl Run {
             unreachable!()
         };
         let node = self.store.add_from(CHUNK, rule, &mut self.kids, count)?;
+        // The number of nodes is below 2^64, which is why reductions end.
         let _nodes = self.store.node_count();
         self.kids.push(PackedKid::of(Kid::Node(node)))?;
         self.states.truncate(rest);
