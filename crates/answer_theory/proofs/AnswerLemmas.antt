@@ -2,6 +2,7 @@
 use Rattle.std.proofs.Common.{◌≡◌, ℕ, suc, List, [], ◌∷◌, ◌++◌, length, refl, sym, ap, subst, ◌∙◌, ⊎_elim, arith}
 use Rattle.std.proofs.lemmas.List.{append-nil}
 use Rattle.sheet_data.specs.Sheet.{Sheet}
+use Rattle.run_theory.proofs.TokenLemmas.{counted}
 use Rattle.answer_theory.specs.declared.status.Status.{Status}
 use Rattle.answer_theory.specs.declared.status.Status.TheVariants.{SheetRefused}
 use Rattle.answer_theory.specs.declared.task.Task.{Task}
@@ -44,7 +45,7 @@ module _ (task : Task) (bytes : List ℕ) where
     same_work {other_status = other_status} {other_out = other_out} {other_err = other_err} other others read same inputs_same other_accepted work other_work =
         let sheets : other ≡ sheet = accepted_once bytes (looking task) other sheet (subst (λ b. IsAccepted (looking task) b other) same other_accepted) accepted in
         let moved : IsWork sheet task others other_status other_out other_err = subst (λ s. IsWork s task others other_status other_out other_err) sheets other_work in
-        work_once sheet work (subst (λ i. IsWork sheet task i other_status other_out other_err) inputs_same moved)
+        work_once sheet (grammar_of bytes sheet accepted.scans) accepted.suits work (subst (λ i. IsWork sheet task i other_status other_out other_err) inputs_same moved)
 
     after_work : {all : List (List ℕ)} {status other_status : Status} {out other_out err other_err : List ℕ} (more : List (List ℕ)) → AreWithin (inputs_of task) inputs → IsWork sheet task inputs status out err → all ≡ bytes ∷ inputs ++ more → Answers task all other_status other_out other_err → AreSame more status other_status out other_out err other_err
     after_work {other_err = err} more within work e (sheet_refused {bytes = read} refused) =
@@ -69,7 +70,7 @@ HasNoAnswer task inputs = (before more : List (List ℕ)) (status : Status) (out
 module _ (task : Task) (bytes : List ℕ) (inputs : List (List ℕ)) (none : HasNoAnswer task (bytes ∷ inputs)) where
   none_within : (sheet : Sheet) → IsAccepted (looking task) bytes sheet → ¬ (AreWithin (inputs_of task) inputs)
   none_within sheet accepted within =
-      some_work sheet (grammar_of bytes sheet accepted.scans) task accepted.suits within (λ status out err work. none (bytes ∷ inputs) [] status out err (sym (append-nil (bytes ∷ inputs))) (work_done accepted within work))
+      some_work sheet (grammar_of bytes sheet accepted.scans) (counted bytes sheet accepted.scans.reads) task accepted.suits within (λ status out err work. none (bytes ∷ inputs) [] status out err (sym (append-nil (bytes ∷ inputs))) (work_done accepted within work))
 
   none_passed : (sheet : Sheet) → IsAccepted (looking task) bytes sheet → ¬ (HasPassed (inputs_of task) inputs)
   none_passed sheet accepted h =

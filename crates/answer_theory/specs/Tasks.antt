@@ -4,7 +4,7 @@ use Rattle.lr_base.specs.declared.limits.TheConstants.{TEXT_BYTES}
 use Rattle.answer_theory.specs.declared.status.Status.{Status}
 use Rattle.answer_theory.specs.declared.status.Status.TheVariants.{TextTooLong}
 use Rattle.answer_theory.specs.declared.task.Task.{Task}
-use Rattle.answer_theory.specs.declared.task.Task.TheVariants.{Tokens, Check, Tables}
+use Rattle.answer_theory.specs.declared.task.Task.TheVariants.{Tokens, Check, Tables, Run}
 
 -- for which faults a task looks
 pub data Looking : Type 0 where
@@ -17,6 +17,7 @@ abbrev pub looking : Task → Looking
 looking Tokens = for_scanning
 looking Check = for_parsing
 looking Tables = for_parsing
+looking (Run emit) = for_parsing
 
 -- what is read besides a sheet: the most bytes that it may have, and the status and what is said where it has more
 pub record Input : Type 0 where
@@ -35,3 +36,4 @@ abbrev pub inputs_of : Task → List Input
 inputs_of Tokens = text_input ∷ []
 inputs_of Check = []
 inputs_of Tables = []
+inputs_of (Run emit) = text_input ∷ []

@@ -10,10 +10,12 @@ use Rattle.collection_data.specs.Collection.{CollectionParts}
 use Rattle.table_data.specs.Tables.{Tables as TableParts}
 use Rattle.grammar_faults.specs.Building.{AreBuiltOf}
 use Rattle.report_theory.specs.TableTexts.{tables_text}
+use Rattle.run_theory.specs.declared.emit.Emit.{Emit}
+use Rattle.run_theory.specs.RunAnswers.{Given, Refused, IsRunAnswer}
 use Rattle.answer_theory.specs.declared.status.Status.{Status}
-use Rattle.answer_theory.specs.declared.status.Status.TheVariants.{Done}
+use Rattle.answer_theory.specs.declared.status.Status.TheVariants.{Done, TextRefused}
 use Rattle.answer_theory.specs.declared.task.Task.{Task}
-use Rattle.answer_theory.specs.declared.task.Task.TheVariants.{Tokens, Check, Tables}
+use Rattle.answer_theory.specs.declared.task.Task.TheVariants.{Tokens, Check, Tables, Run}
 
 -- the list of the text's tokens
 pub record IsListOf (sheet : Sheet) (text listed : List ℕ) : Type 0 where
@@ -33,3 +35,5 @@ pub data IsWork (sheet : Sheet) : Task → List (List ℕ) → Status → List �
   tokens_listed : {text listed : List ℕ} → IsListOf sheet text listed → IsWork sheet Tokens (text ∷ []) Done listed []
   layout_printed : {printed : List ℕ} → printed ≡ layout sheet → IsWork sheet Check [] Done printed []
   tables_printed : {printed : List ℕ} → IsTablesText sheet printed → IsWork sheet Tables [] Done printed []
+  run_given : {text given : List ℕ} {emit : Emit} → IsRunAnswer sheet text emit (Given given) → IsWork sheet (Run emit) (text ∷ []) Done given []
+  run_refused : {text said : List ℕ} {emit : Emit} → IsRunAnswer sheet text emit (Refused said) → IsWork sheet (Run emit) (text ∷ []) TextRefused [] said

@@ -6,6 +6,8 @@ ghost use Rattle.answer_theory.specs.Codes.{code_of};
 pub enum Status {
     /// The command's work is done: its inputs were read to their ends, and the output took all its bytes.
     Done,
+    /// The text's tokens are no sentence of the sheet's grammar.
+    TextRefused,
     /// The words are of no form.
     BadWords,
     /// The sheet is refused.
@@ -21,12 +23,13 @@ pub enum Status {
 }
 
 impl Status {
-    /// The exit status: 0 done, 2 bad words, 3 sheet refused, 4 read fault, 5 write fault, 6 no memory, 7 text too long.
+    /// The exit status: 0 done, 1 text refused, 2 bad words, 3 sheet refused, 4 read fault, 5 write fault, 6 no memory, 7 text too long.
     pub fn code(&self) -> u8
         ensures { result ≡ code_of self.now }
     {
         match self {
             Status::Done => 0,
+            Status::TextRefused => 1,
             Status::BadWords => 2,
             Status::SheetRefused => 3,
             Status::ReadFault => 4,

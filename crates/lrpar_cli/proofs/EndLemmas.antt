@@ -3,11 +3,11 @@ use Rattle.std.proofs.Common.{◌≡◌, ◌≢◌, ◌⊎◌, inl, inr, List, [
 use Rattle.lr_base.specs.Outside.{ShelfSeen, SinkSeen}
 use Rattle.sheet_data.specs.Sheet.{Sheet}
 use Rattle.answer_theory.specs.declared.status.Status.{Status}
-use Rattle.answer_theory.specs.declared.status.Status.TheVariants.{Done, WriteFault, NoMemory}
+use Rattle.answer_theory.specs.declared.status.Status.TheVariants.{Done, TextRefused, WriteFault, NoMemory}
 use Rattle.answer_theory.specs.declared.task.Task.{Task}
-use Rattle.answer_theory.specs.declared.task.Task.TheVariants.{Tokens, Check, Tables}
+use Rattle.answer_theory.specs.declared.task.Task.TheVariants.{Tokens, Check, Tables, Run}
 use Rattle.answer_theory.specs.Tasks.{inputs_of}
-use Rattle.answer_theory.specs.Work.{IsWork, tokens_listed, layout_printed, tables_printed}
+use Rattle.answer_theory.specs.Work.{IsWork, tokens_listed, layout_printed, tables_printed, run_given, run_refused}
 use Rattle.answer_theory.specs.Answers.{Answers, sheet_refused, input_too_long, work_done, IsPassed, passed_here, passed_later}
 use Rattle.lrpar_cli.specs.declared.stop.Stop.{Stop}
 use Rattle.lrpar_cli.specs.declared.stop.Stop.TheVariants.{Due, Unread, Unwritten, Spent}
@@ -42,17 +42,23 @@ passed_quiet Tokens (passed_here long) (inr e) = cc
 passed_quiet Tokens (passed_later short passed) quiet = elim passed [ ]
 passed_quiet Check passed quiet = elim passed [ ]
 passed_quiet Tables passed quiet = elim passed [ ]
+passed_quiet (Run emit) (passed_here long) (inl e) = cc
+passed_quiet (Run emit) (passed_here long) (inr e) = cc
+passed_quiet (Run emit) (passed_later short passed) quiet = elim passed [ ]
 
-work_silent : {sheet : Sheet} {task : Task} {inputs : List (List ℕ)} {status : Status} {out err : List ℕ} → IsWork sheet task inputs status out err → err ≡ []
-work_silent (tokens_listed is) = refl
-work_silent (layout_printed is) = refl
-work_silent (tables_printed is) = refl
+work_silent : {sheet : Sheet} {task : Task} {inputs : List (List ℕ)} {status : Status} {out err : List ℕ} → IsWork sheet task inputs status out err → IsQuiet status → err ≡ []
+work_silent (tokens_listed is) quiet = refl
+work_silent (layout_printed is) quiet = refl
+work_silent (tables_printed is) quiet = refl
+work_silent (run_given answer) quiet = refl
+work_silent (run_refused answer) (inl e) = absurd (cc)
+work_silent (run_refused answer) (inr e) = absurd (cc)
 
 answer_silent : {task : Task} {inputs : List (List ℕ)} {status : Status} {out err : List ℕ} → Answers task inputs status out err → IsQuiet status → err ≡ []
 answer_silent (sheet_refused refused) (inl e) = absurd (cc)
 answer_silent (sheet_refused refused) (inr e) = absurd (cc)
 answer_silent {task = task} (input_too_long accepted passed) quiet = absurd (passed_quiet task passed quiet)
-answer_silent (work_done accepted within work) quiet = work_silent work
+answer_silent (work_done accepted within work) quiet = work_silent work quiet
 
 comes_silent : {task : Task} {names : List (List ℕ)} {before after : ShelfSeen} {out_before out_after : SinkSeen} {said : List ℕ} {status : Status} → ComesOut task names before after out_before out_after said status → IsQuiet status → said ≡ []
 comes_silent (answered due read takes) quiet = answer_silent due.answers quiet

@@ -8,15 +8,15 @@ use Rattle.sheet_data.specs.Sheet.{Sheet}
 use Rattle.answer_theory.specs.declared.status.Status.{Status}
 use Rattle.answer_theory.specs.declared.status.Status.TheVariants.{Done, BadWords, ReadFault, WriteFault, TextTooLong}
 use Rattle.answer_theory.specs.declared.task.Task.{Task}
-use Rattle.answer_theory.specs.declared.task.Task.TheVariants.{Tokens, Check, Tables}
+use Rattle.answer_theory.specs.declared.task.Task.TheVariants.{Tokens, Check, Tables, Run}
 use Rattle.answer_theory.specs.Tasks.{inputs_of}
-use Rattle.answer_theory.specs.Work.{IsWork, tokens_listed, layout_printed, tables_printed}
+use Rattle.answer_theory.specs.Work.{IsWork, tokens_listed, layout_printed, tables_printed, run_given, run_refused}
 use Rattle.answer_theory.specs.Answers.{Answers, sheet_refused, input_too_long, work_done, IsPassed, passed_here, passed_later}
 use Rattle.answer_theory.proofs.AnswerLemmas.{answer_once}
-use Rattle.lrpar_cli.specs.Words.{HasForm, IsBadWords}
+use Rattle.word_theory.specs.Words.{HasForm, IsBadWords}
 use Rattle.lrpar_cli.specs.Endings.{Outside, AreRead, none_read, one_read, IsDue, IsUnread, answered, unread, unwritten, spent, said_whole, said_in_part, IsEnding, with_bad_words, with_task}
 use Rattle.lrpar_cli.specs.Laws.{OneDueLaw, CompleteLaw, ServedLaw, RoomLaw, bad_words_answered, task_answered, AreServed, Fits}
-use Rattle.lrpar_cli.proofs.WordLemmas.{form_once}
+use Rattle.word_theory.proofs.WordLemmas.{form_once}
 
 same_standing : (stood : Option (List ℕ)) (one other : List ℕ) → IsSome stood → IfSome stood (λ standing. one ≡ standing) → IfSome stood (λ standing. other ≡ standing) → one ≡ other
 same_standing None one other there is also = cc
@@ -77,11 +77,15 @@ passed_status Tokens (passed_here long) = answer_long
 passed_status Tokens (passed_later short passed) = elim passed [ ]
 passed_status Check passed = elim passed [ ]
 passed_status Tables passed = elim passed [ ]
+passed_status (Run emit) (passed_here long) = answer_long
+passed_status (Run emit) (passed_later short passed) = elim passed [ ]
 
 work_status : {sheet : Sheet} {task : Task} {inputs : List (List ℕ)} {status : Status} {out err : List ℕ} → IsWork sheet task inputs status out err → IsAnswer status
 work_status (tokens_listed is) = answer_done
 work_status (layout_printed is) = answer_done
 work_status (tables_printed is) = answer_done
+work_status (run_given answer) = answer_done
+work_status (run_refused answer) = record { read = λ e. cc; written = λ e. cc; given = λ e. cc }
 
 pub answer_status : {task : Task} {inputs : List (List ℕ)} {status : Status} {out err : List ℕ} → Answers task inputs status out err → IsAnswer status
 answer_status (sheet_refused refused) = record { read = λ e. cc; written = λ e. cc; given = λ e. cc }

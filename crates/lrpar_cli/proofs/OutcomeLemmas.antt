@@ -8,18 +8,20 @@ use Rattle.writing_theory.specs.declared.fault.WriteFault.{WriteFault}
 use Rattle.writing_theory.specs.declared.fault.WriteFault.TheVariants.{Failed, NoMemory}
 use Rattle.sheet_data.specs.Sheet.{Sheet}
 use Rattle.answer_theory.specs.declared.status.Status.{Status}
-use Rattle.answer_theory.specs.declared.status.Status.TheVariants.{Done}
+use Rattle.answer_theory.specs.declared.status.Status.TheVariants.{Done, TextRefused, NoMemory as out_of_memory}
+use Rattle.run_theory.specs.declared.emit.Emit.{Emit}
 use Rattle.answer_theory.specs.declared.task.Task.{Task}
-use Rattle.answer_theory.specs.declared.task.Task.TheVariants.{Tokens}
-use Rattle.answer_theory.specs.Tasks.{looking, for_scanning, inputs_of, text_input}
-use Rattle.answer_theory.specs.Work.{IsListOf, IsWork, tokens_listed}
+use Rattle.answer_theory.specs.declared.task.Task.TheVariants.{Run}
+use Rattle.answer_theory.specs.Tasks.{looking, for_parsing, Input, inputs_of, text_input}
+use Rattle.answer_theory.specs.Work.{IsWork, run_refused}
 use Rattle.answer_theory.specs.Sheets.{IsAccepted}
-use Rattle.answer_theory.specs.Answers.{AreWithin, none_left, one_within, Answers, sheet_refused, input_too_long, work_done, passed_here}
+use Rattle.answer_theory.specs.Answers.{AreWithin, none_left, one_within, IsPassed, Answers, sheet_refused, input_too_long, work_done, passed_here}
 use Rattle.answer_theory.proofs.SheetLemmas.{not_refused}
 use Rattle.lrpar_cli.specs.declared.stop.Stop.{Stop}
 use Rattle.lrpar_cli.specs.declared.stop.Stop.TheVariants.{Due, Unread, Unwritten, Spent}
 use Rattle.lrpar_cli.specs.Endings.{AreRead, none_read, one_read, HasRead, IsDue, IsPending, before_output, within_output, ComesOut, answered, unread, unwritten, spent}
 use Rattle.lrpar_cli.specs.Inputs.{ReadsName, HasSheet, IsSheetStop, HasInput, IsInputStop}
+use Rattle.lrpar_cli.specs.Translating.{IsTextStop}
 use Rattle.lrpar_cli.specs.Stops.{StopsEarly, said_of, status_of, writing_stop}
 
 take_next : {A : Type 0} (xs : List A) (k : ℕ) (x : A) → slice_get xs k ≡ Some x → take (suc k) xs ≡ take k xs ++ x ∷ []
@@ -118,44 +120,64 @@ module _ (before after : ShelfSeen) (out_before out_after : SinkSeen) (task : Ta
   stops_at_sheet Unwritten failed is reads to from takes = absurd is
   stops_at_sheet Spent failed is reads to from takes = comes_spent before before after task (name ∷ rest) [] name (first_stage before task (name ∷ rest)) refl failed reads out_before out_after (λ fails. let no = from fails in cc) takes
 
--- nothing is due by an accepted sheet before the text was read
-text_pending : (bytes : List ℕ) (sheet : Sheet) → IsAccepted for_scanning bytes sheet → (status : Status) (out err : List ℕ) → ¬ (Answers Tokens (bytes ∷ []) status out err)
-text_pending bytes sheet accepted status out err (sheet_refused refused) = not_refused bytes for_scanning sheet accepted refused
-text_pending bytes sheet accepted status out err (input_too_long other passed) = elim passed [ ]
-text_pending bytes sheet accepted status out err (work_done other within work) = elim within [ ]
+-- a text is still to be read
+not_within : (inputs : List Input) → inputs ≡ text_input ∷ [] → ¬ (AreWithin inputs [])
+not_within inputs e none_left = cc
 
-module _ (before now after : ShelfSeen) (out_before out_after : SinkSeen) (name text_name : List ℕ) (sheet : Sheet) (has : HasSheet for_scanning before name sheet) (read_failed : Type 0) (read : ReadsName before now name read_failed) (fine : ¬ read_failed) (same : IsSameShelf before now) where
-  abbrev both : List (List ℕ)
-  both = name ∷ text_name ∷ []
+-- nor is it too long
+nothing_passed : {inputs : List Input} {status : Status} {said : List ℕ} → ¬ (IsPassed inputs [] status said)
+nothing_passed passed = elim passed [ ]
 
-  text_stage : Stage before now Tokens both (has.bytes ∷ [])
-  text_stage = record {
-    pending = record { stand = one_read has.stand none_read; unanswered = text_pending has.bytes sheet has.accepted };
-    read = record { begun = read.begun; kept = read.kept fine };
-    same = same;
-  }
+-- a command that reads a sheet and a text
+module _ (task : Task) (one : inputs_of task ≡ text_input ∷ []) where
+  -- nothing is due by an accepted sheet before the text was read
+  text_pending : (bytes : List ℕ) (sheet : Sheet) → IsAccepted (looking task) bytes sheet → (status : Status) (out err : List ℕ) → ¬ (Answers task (bytes ∷ []) status out err)
+  text_pending bytes sheet accepted status out err (sheet_refused refused) = not_refused bytes (looking task) sheet accepted refused
+  text_pending bytes sheet accepted status out err (input_too_long other passed) = nothing_passed passed
+  text_pending bytes sheet accepted status out err (work_done other within work) = not_within (inputs_of task) one within
 
-  -- the command stops at its text
-  pub stops_at_text : (stop : Stop) (failed : Type 0) → IsInputStop text_input now text_name stop → ReadsName now after text_name failed → (stop ≡ Unread → failed) → (failed → stop ≡ Unread) → Takes out_before out_after []
-      → ComesOut Tokens both before after out_before out_after (said_of (Err stop)) (status_of (Err stop))
-  stops_at_text (Due status said) failed is reads to from takes =
-      let long = is.2 in
-      let answer : Answers Tokens (has.bytes ∷ long.bytes ∷ []) text_input.status [] text_input.said = input_too_long has.accepted (passed_here long.long) in
-      comes_due before now after Tokens both (has.bytes ∷ []) text_name text_stage refl failed reads out_before out_after long.bytes (stands_before before now text_name long.bytes same long.stand) (λ fails. let no = from fails in cc) status said
-      (subst (λ s. Answers Tokens (has.bytes ∷ long.bytes ∷ []) s [] said) (sym is.0) (subst (λ t. Answers Tokens (has.bytes ∷ long.bytes ∷ []) text_input.status [] t) (sym is.1) answer)) takes
-  stops_at_text Unread failed is reads to from takes = comes_unread before now after Tokens both (has.bytes ∷ []) text_name text_stage refl failed reads out_before out_after (to refl) takes
-  stops_at_text Unwritten failed is reads to from takes = absurd is
-  stops_at_text Spent failed is reads to from takes = comes_spent before now after Tokens both (has.bytes ∷ []) text_name text_stage refl failed reads out_before out_after (λ fails. let no = from fails in cc) takes
+  module _ (before now after : ShelfSeen) (out_before out_after : SinkSeen) (name text_name : List ℕ) (sheet : Sheet) (has : HasSheet (looking task) before name sheet) (read_failed : Type 0) (read : ReadsName before now name read_failed) (fine : ¬ read_failed) (same : IsSameShelf before now) where
+    abbrev both : List (List ℕ)
+    both = name ∷ text_name ∷ []
 
-  module _ (text : List ℕ) (input : HasInput text_input now text_name text) (failed : Type 0) (reads : ReadsName now after text_name failed) (fine_text : ¬ failed) where
-    listed : (list : List ℕ) → IsListOf sheet text list → Answers Tokens (has.bytes ∷ text ∷ []) Done list []
-    listed list is = work_done has.accepted (one_within input.within none_left) (tokens_listed is)
+    text_stage : Stage before now task both (has.bytes ∷ [])
+    text_stage = record {
+      pending = record { stand = one_read has.stand none_read; unanswered = text_pending has.bytes sheet has.accepted };
+      read = record { begun = read.begun; kept = read.kept fine };
+      same = same;
+    }
 
-    pub tokens_whole : IsWritten (IsListOf sheet text) out_before out_after (Ok tt) → ComesOut Tokens both before after out_before out_after [] Done
-    tokens_whole = comes_whole before now after Tokens both (has.bytes ∷ []) text_name text_stage refl failed reads out_before out_after text (stands_before before now text_name text same input.stand) fine_text (IsListOf sheet text) listed
+    -- the command stops at its text
+    pub stops_at_text : (stop : Stop) (failed : Type 0) → IsInputStop text_input now text_name stop → ReadsName now after text_name failed → (stop ≡ Unread → failed) → (failed → stop ≡ Unread) → Takes out_before out_after []
+        → ComesOut task both before after out_before out_after (said_of (Err stop)) (status_of (Err stop))
+    stops_at_text (Due status said) failed is reads to from takes =
+        let long = is.2 in
+        let passed : IsPassed (inputs_of task) (long.bytes ∷ []) text_input.status text_input.said = subst (λ inputs. IsPassed inputs (long.bytes ∷ []) text_input.status text_input.said) (sym one) (passed_here long.long) in
+        let answer : Answers task (has.bytes ∷ long.bytes ∷ []) text_input.status [] text_input.said = input_too_long has.accepted passed in
+        comes_due before now after task both (has.bytes ∷ []) text_name text_stage refl failed reads out_before out_after long.bytes (stands_before before now text_name long.bytes same long.stand) (λ fails. let no = from fails in cc) status said
+        (subst (λ s. Answers task (has.bytes ∷ long.bytes ∷ []) s [] said) (sym is.0) (subst (λ t. Answers task (has.bytes ∷ long.bytes ∷ []) text_input.status [] t) (sym is.1) answer)) takes
+    stops_at_text Unread failed is reads to from takes = comes_unread before now after task both (has.bytes ∷ []) text_name text_stage refl failed reads out_before out_after (to refl) takes
+    stops_at_text Unwritten failed is reads to from takes = absurd is
+    stops_at_text Spent failed is reads to from takes = comes_spent before now after task both (has.bytes ∷ []) text_name text_stage refl failed reads out_before out_after (λ fails. let no = from fails in cc) takes
 
-    pub tokens_stopped : (fault : WriteFault) → IsWritten (IsListOf sheet text) out_before out_after (Err fault) → ComesOut Tokens both before after out_before out_after (said_of (Err (writing_stop fault))) (status_of (Err (writing_stop fault)))
-    tokens_stopped = comes_stopped before now after Tokens both (has.bytes ∷ []) text_name text_stage refl failed reads out_before out_after text (stands_before before now text_name text same input.stand) fine_text (IsListOf sheet text) listed
+    module _ (text : List ℕ) (input : HasInput text_input now text_name text) (failed : Type 0) (reads : ReadsName now after text_name failed) (fine_text : ¬ failed) where
+      worked : {status : Status} {out err : List ℕ} → IsWork sheet task (text ∷ []) status out err → Answers task (has.bytes ∷ text ∷ []) status out err
+      worked work = work_done has.accepted (subst (λ inputs. AreWithin inputs (text ∷ [])) (sym one) (one_within input.within none_left)) work
+
+      -- this is due of the text
+      pub text_due : (status : Status) (said : List ℕ) → IsWork sheet task (text ∷ []) status [] said → Takes out_before out_after [] → ComesOut task both before after out_before out_after said status
+      text_due status said work takes = comes_due before now after task both (has.bytes ∷ []) text_name text_stage refl failed reads out_before out_after text (stands_before before now text_name text same input.stand) fine_text status said (worked work) takes
+
+      -- memory ran out before anything was due of it
+      pub text_spent : Takes out_before out_after [] → ComesOut task both before after out_before out_after [] out_of_memory
+      text_spent takes = comes_spent before now after task both (has.bytes ∷ []) text_name text_stage refl failed reads out_before out_after fine_text takes
+
+      module _ (Is : List ℕ → Type 0) (works : (given : List ℕ) → Is given → IsWork sheet task (text ∷ []) Done given []) where
+        pub text_whole : IsWritten Is out_before out_after (Ok tt) → ComesOut task both before after out_before out_after [] Done
+        text_whole = comes_whole before now after task both (has.bytes ∷ []) text_name text_stage refl failed reads out_before out_after text (stands_before before now text_name text same input.stand) fine_text Is (λ given is. worked (works given is))
+
+        pub text_stopped : (fault : WriteFault) → IsWritten Is out_before out_after (Err fault) → ComesOut task both before after out_before out_after (said_of (Err (writing_stop fault))) (status_of (Err (writing_stop fault)))
+        text_stopped = comes_stopped before now after task both (has.bytes ∷ []) text_name text_stage refl failed reads out_before out_after text (stands_before before now text_name text same input.stand) fine_text Is (λ given is. worked (works given is))
 
 -- what is printed of a sheet whose grammar has tables
 module _ (before after : ShelfSeen) (out_before out_after : SinkSeen) (task : Task) (name : List ℕ) (sheet : Sheet) (has : HasSheet (looking task) before name sheet) (failed : Type 0) (reads : ReadsName before after name failed) (fine : ¬ failed) (Is : List ℕ → Type 0)
@@ -180,3 +202,14 @@ pub writing_late : (result : Result (Unit {0}) Stop) (fault : WriteFault) → Is
 writing_late (Ok done) fault same early = early
 writing_late (Err x) Failed same early = subst (λ y. StopsEarly (Err y)) same early
 writing_late (Err x) NoMemory same early = subst (λ y. StopsEarly (Err y)) same early
+
+-- a run stops at what its text is
+module _ (before now after : ShelfSeen) (out_before out_after : SinkSeen) (emit : Emit) (name text_name : List ℕ) (sheet : Sheet) (has : HasSheet for_parsing before name sheet) (read_failed : Type 0) (read : ReadsName before now name read_failed) (fine : ¬ read_failed) (same : IsSameShelf before now)
+    (text : List ℕ) (input : HasInput text_input now text_name text) (failed : Type 0) (reads : ReadsName now after text_name failed) (fine_text : ¬ failed) where
+  pub stops_at_parse : (stop : Stop) → IsTextStop sheet text stop → Takes out_before out_after [] → ComesOut (Run emit) (name ∷ text_name ∷ []) before after out_before out_after (said_of (Err stop)) (status_of (Err stop))
+  stops_at_parse (Due status said) is takes =
+      subst (λ s. ComesOut (Run emit) (name ∷ text_name ∷ []) before after out_before out_after said s) (sym is.0)
+      (text_due (Run emit) refl before now after out_before out_after name text_name sheet has read_failed read fine same text input failed reads fine_text TextRefused said (run_refused (is.1 emit)) takes)
+  stops_at_parse Unread is takes = absurd is
+  stops_at_parse Unwritten is takes = absurd is
+  stops_at_parse Spent is takes = text_spent (Run emit) refl before now after out_before out_after name text_name sheet has read_failed read fine same text input failed reads fine_text takes

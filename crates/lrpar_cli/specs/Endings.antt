@@ -6,7 +6,7 @@ use Rattle.answer_theory.specs.declared.status.Status.{Status}
 use Rattle.answer_theory.specs.declared.status.Status.TheVariants.{BadWords, ReadFault, WriteFault, NoMemory}
 use Rattle.answer_theory.specs.declared.task.Task.{Task}
 use Rattle.answer_theory.specs.Answers.{Answers}
-use Rattle.lrpar_cli.specs.Words.{HasForm, IsBadWords}
+use Rattle.word_theory.specs.Words.{HasForm, IsBadWords}
 
 -- what is known of the shelf and of the two sinks
 pub record Outside : Type 0 where

@@ -4,7 +4,7 @@ use Rattle.lr_base.specs.Outside.{ShelfSeen, SinkSeen, Rose, Takes, is_listed}
 use Rattle.answer_theory.specs.declared.status.Status.{Status}
 use Rattle.answer_theory.specs.declared.status.Status.TheVariants.{BadWords, ReadFault, WriteFault, NoMemory}
 use Rattle.answer_theory.specs.declared.task.Task.{Task}
-use Rattle.lrpar_cli.specs.Words.{HasForm, IsBadWords}
+use Rattle.word_theory.specs.Words.{HasForm, IsBadWords}
 use Rattle.lrpar_cli.specs.Endings.{Outside, Stays, IsDue, IsEnding, HasRead, bad_words_text, read_fault_text}
 
 -- over a shelf that tells its bytes, what is due by the words is one: the names that are read, the status, and what is

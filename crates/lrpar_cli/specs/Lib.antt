@@ -1,5 +1,5 @@
-pub mod Words
 pub mod Endings
 pub mod Stops
 pub mod Inputs
 pub mod Laws
+pub mod Translating

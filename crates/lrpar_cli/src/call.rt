@@ -1,11 +1,11 @@
 ghost use Rattle.std.specs.Prelude.{◌≡◌, ◌≢◌, ◌⊎◌, map, string_bytes};
 ghost use Rattle.lrpar_cli.specs.Endings.{IsEnding, Stays};
-ghost use Rattle.lrpar_cli.specs.Words.{IsBadWords};
+ghost use Rattle.word_theory.specs.Words.{IsBadWords};
 
 use crate::commands::run;
 use crate::saying::{end, say};
-use crate::words::command_of;
 use answer_theory::Status;
+use command_words::command_of;
 use lr_base::{Gate, Shelf, Sink};
 use std::alloc::Global;
 use std::thread::Threads;

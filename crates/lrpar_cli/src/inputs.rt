@@ -29,10 +29,10 @@ pub struct Scanned {
     pub means: Vec<Meaning>,
 }
 
-/// A sheet, with the collection and the tables of its grammar.
+/// A sheet with its scanner, and the collection and the tables of its grammar.
 #[derive(Drop)]
 pub struct Parsing {
-    pub sheet: Sheet,
+    pub scanned: Scanned,
     pub built: Built,
 }
 
@@ -117,16 +117,16 @@ fn build(alloc: Global, sheet: &Sheet) -> Result<Built, Stop>
 
 /// Reads a sheet whose grammar has tables, and builds them.
 pub fn read_parsing<S: Shelf>(alloc: Global, shelf: &mut S, name: &str) -> Result<Parsing, Stop>
-    ensures sheet { IfOk result (λ parsing. HasSheet for_parsing (S.seen shelf.old) name.now parsing.sheet) }
-    ensures built { IfOk result (λ parsing. IsBuilt parsing.sheet.grammar parsing.built) }
+    ensures sheet { IfOk result (λ parsing. HasSheet for_parsing (S.seen shelf.old) name.now parsing.scanned.sheet) }
+    ensures ready { IfOk result (λ parsing. IsReady parsing.scanned) }
+    ensures built { IfOk result (λ parsing. IsBuilt parsing.scanned.sheet.grammar parsing.built) }
     ensures stopped { IfErr result (λ stop. IsSheetStop for_parsing (S.seen shelf.old) name.now stop) }
     ensures reads { ReadsName (S.seen shelf.old) (S.seen shelf.new) name.now (result ≡ Err Stop.Unread) }
     ensures same { IsSameShelf (S.seen shelf.old) (S.seen shelf.new) }
 {
     let scanned = read_scanned(alloc, shelf, name)?;
     let built = build(alloc, &scanned.sheet)?;
-    let Scanned { sheet, .. } = scanned;
-    Ok(Parsing { sheet, built })
+    Ok(Parsing { scanned, built })
 }
 
 /// Reads a text of at most so many bytes as a text may have.

@@ -8,7 +8,7 @@ mod laws;
 mod outputs;
 mod saying;
 mod stop;
-mod words;
+mod translating;
 
 pub use answer_theory::Status;
 pub use call::lrpar;

@@ -21,13 +21,13 @@ use std::alloc::Global;
 
 /// The lines of a text and its tokens by a sheet.
 #[derive(Drop)]
-struct Lexed {
-    lines: Lines,
-    tokens: Vec<Token>,
+pub struct Lexed {
+    pub lines: Lines,
+    pub tokens: Vec<Token>,
 }
 
 /// Finds a text's tokens.
-fn lex_text(alloc: Global, scanned: &Scanned, text: &[u8]) -> Result<Lexed, NoMemory>
+pub fn lex_text(alloc: Global, scanned: &Scanned, text: &[u8]) -> Result<Lexed, NoMemory>
     requires short { length text.now ≤ TEXT_BYTES }
     requires ready { IsReady scanned.now }
     ensures lines { IfOk result (λ lexed. lexed.lines ≡ line_starts text.now) }
@@ -73,10 +73,10 @@ pub fn write_states<O: Sink>(
     parsing: &Parsing,
     out: &mut O,
 ) -> Result<(), WriteFault>
-    requires { IsBuilt parsing.now.sheet.grammar parsing.now.built }
-    ensures written { IsWritten (IsTablesText parsing.now.sheet) (O.seen out.old) (O.seen out.new) result }
+    requires { IsBuilt parsing.now.scanned.sheet.grammar parsing.now.built }
+    ensures written { IsWritten (IsTablesText parsing.now.scanned.sheet) (O.seen out.old) (O.seen out.new) result }
     ensures same { IsSameSink (O.seen out.old) (O.seen out.new) }
 {
-    let Parsing { sheet, built } = parsing;
-    write_tables(alloc, sheet, &built.collection, &built.tables, out)
+    let Parsing { scanned, built } = parsing;
+    write_tables(alloc, &scanned.sheet, &built.collection, &built.tables, out)
 }

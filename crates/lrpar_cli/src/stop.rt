@@ -39,6 +39,17 @@ impl From<ReadFault> for Stop {
     }
 }
 
+impl From<NoMemory> for Stop {
+    ghost use Rattle.std.specs.Prelude.{◌≡◌};
+    ghost use Rattle.lrpar_cli.specs.declared.stop.Stop.TheVariants.{Spent};
+
+    ghost from_gives = { λ _ stop. stop ≡ Spent };
+
+    fn from(_error: NoMemory) -> Stop {
+        Stop::Spent
+    }
+}
+
 impl From<WriteFault> for Stop {
     ghost use Rattle.std.specs.Prelude.{◌≡◌};
     ghost use Rattle.lrpar_cli.specs.Stops.{writing_stop};

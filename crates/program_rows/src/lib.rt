@@ -12,4 +12,6 @@ mod pattern_sheets;
 #[cfg(test)]
 mod program;
 #[cfg(test)]
+mod runs;
+#[cfg(test)]
 mod table_calls;

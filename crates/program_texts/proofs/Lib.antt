@@ -1,1 +1,3 @@
 pub mod TableListLemmas
+pub mod NameListLemmas
+pub mod DiagnosticLemmas

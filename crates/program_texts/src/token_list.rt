@@ -12,7 +12,7 @@ use sheet_data::Bytes;
 use std::alloc::Global;
 
 /// Adds a number and a space.
-fn push_column(list: &mut Vec<u8>, number: u64) -> Result<(), NoMemory>
+pub fn push_column(list: &mut Vec<u8>, number: u64) -> Result<(), NoMemory>
     ensures { OnOk result (list.new.items ≡ list.old.items ++ (decimal number ++ 32 ∷ [])) }
 {
     push_number(list, number)?;
@@ -21,7 +21,7 @@ fn push_column(list: &mut Vec<u8>, number: u64) -> Result<(), NoMemory>
 }
 
 /// Adds the printed name of the token of this number, if it has one.
-fn push_name(list: &mut Vec<u8>, names: &[Bytes], id: TokenId) -> Result<(), NoMemory>
+pub fn push_name(list: &mut Vec<u8>, names: &[Bytes], id: TokenId) -> Result<(), NoMemory>
     ensures { OnOk result (list.new.items ≡ list.old.items ++ unwrap_or (slice_get names.now id) []) }
 {
     match names.get(id.0 as usize) {

@@ -1,6 +1,7 @@
-use Rattle.std.proofs.Common.{ap, Err}
+use Rattle.std.proofs.Common.{ap, refl, Err}
+use Rattle.answer_theory.specs.Work.{tokens_listed}
 use Rattle.lrpar_cli.proofs.OutputLemmas.{takes_nothing}
-use Rattle.lrpar_cli.proofs.OutcomeLemmas.{comes_at, stops_at_sheet, stops_at_text, tokens_whole, tokens_stopped}
+use Rattle.lrpar_cli.proofs.OutcomeLemmas.{comes_at, stops_at_sheet, stops_at_text, text_whole, text_stopped}
 use Rattle.answer_theory.specs.declared.task.Task.TheVariants.{Tokens}
 use Rattle.lrpar_cli.specs.Stops.{writing_stop}
 use Rattle.lrpar_cli.proofs.commands.list_tokens.Goals as goal
@@ -16,7 +17,7 @@ returns-in_err-text-clause-comes g c =
     let stop = c.in_err-text.field-0.0 in
     let sheet = c.in_ok-scanned.ensures in
     comes_at _ _ _ _ _ _ c.from_residual-in_err-text.result stop c.from_residual-in_err-text.ensures.1
-    (stops_at_text _ _ _ _ _ _ _ _ sheet.sheet _ sheet.reads (λ e. cc) sheet.same stop _ c.in_err-text.ensures.stopped c.in_err-text.ensures.reads (λ e. ap Err e) (λ e. cc) (takes_nothing _))
+    (stops_at_text Tokens refl _ _ _ _ _ _ _ _ sheet.sheet _ sheet.reads (λ e. cc) sheet.same stop _ c.in_err-text.ensures.stopped c.in_err-text.ensures.reads (λ e. ap Err e) (λ e. cc) (takes_nothing _))
 
 pub returns-in_err-write_tokens-clause-comes : goal.returns-in_err-write_tokens-clause-comes
 returns-in_err-write_tokens-clause-comes g c =
@@ -24,10 +25,10 @@ returns-in_err-write_tokens-clause-comes g c =
     let text = c.in_ok-text.ensures in
     let fault = c.in_err-write_tokens.field-0.0 in
     comes_at _ _ _ _ _ _ c.from_residual-in_err-write_tokens.result (writing_stop fault) c.from_residual-in_err-write_tokens.ensures.1
-    (tokens_stopped _ _ _ _ _ _ _ _ sheet.sheet _ sheet.reads (λ e. cc) sheet.same c.in_ok-text.text.items text.text _ text.reads (λ e. cc) fault (rw c.deref.ensures.value at c.in_err-write_tokens.ensures.written))
+    (text_stopped Tokens refl _ _ _ _ _ _ _ _ sheet.sheet _ sheet.reads (λ e. cc) sheet.same c.in_ok-text.text.items text.text _ text.reads (λ e. cc) _ (λ given is. tokens_listed is) fault (rw c.deref.ensures.value at c.in_err-write_tokens.ensures.written))
 
 pub returns-clause-comes : goal.returns-clause-comes
 returns-clause-comes g c =
     let sheet = c.in_ok-scanned.ensures in
     let text = c.in_ok-text.ensures in
-    tokens_whole _ _ _ _ _ _ _ _ sheet.sheet _ sheet.reads (λ e. cc) sheet.same c.in_ok-text.text.items text.text _ text.reads (λ e. cc) (rw c.deref.ensures.value at c.in_ok-write_tokens.ensures.written)
+    text_whole Tokens refl _ _ _ _ _ _ _ _ sheet.sheet _ sheet.reads (λ e. cc) sheet.same c.in_ok-text.text.items text.text _ text.reads (λ e. cc) _ (λ given is. tokens_listed is) (rw c.deref.ensures.value at c.in_ok-write_tokens.ensures.written)
