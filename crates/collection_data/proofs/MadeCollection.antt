@@ -19,9 +19,6 @@ use Rattle.collection_data.specs.Rows.{symbol_at, IsStepOf, AreAllRowsOf}
 use Rattle.collection_data.proofs.RowLemmas.{times_le, symbol_of_column}
 
 module _ (g : Grammar) (range : IsInRange g) (t : CollectionParts) (tokens : t.tokens ≡ g.tokens) (names : t.names ≡ g.names) (done : AreAllRowsOf g t.states t.steps) (are : (q : ℕ) (es : List Entry) → slice_get t.states q ≡ Some es → AreEntries g es) where
-  abbrev Along : ℕ → Sym → Option ℕ
-  Along q x = step_in t q x
-
   step_in_row : (q : ℕ) (x : Sym) → step_in t q x ≡ option_and_then (λ k. get_or t.steps (q * (g.tokens + g.names) + k) None) (column_of g.tokens g.names x)
   step_in_row q x = ap (λ (m : ℕ). option_and_then (λ k. get_or t.steps (q * (m + t.names) + k) None) (column_of m t.names x)) tokens
       ∙ ap (λ (m : ℕ). option_and_then (λ k. get_or t.steps (q * (g.tokens + m) + k) None) (column_of g.tokens m x)) names

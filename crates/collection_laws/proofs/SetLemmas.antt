@@ -2,7 +2,8 @@
 use Rattle.std.proofs.Common.{◌≡◌, ℕ, zero, suc, ◌/◌, ◌==◌, ◌||◌, ◌<◌, ◌≤◌, ◌↔◌, ◌⊎◌, inl, inr, ⊎_elim, true, IsTrue, List, set, sym, subst, ◌∙◌, arith}
 use Rattle.std.proofs.lemmas.Bool.{or_left, or_right, or_cases, eqb-true, eq-eqb, false≢true, cases_lt}
 use Rattle.grammar_data.specs.TokenSet.{IsTokenSet, has_token}
-use Rattle.grammar_data.proofs.TokenSetLemmas.{IsTokenSet-set, with_token, with_token-lt, insert_members, no_words, no_token, IsTokenSet-no_words}
+use Rattle.grammar_data.proofs.WordLemmas.{with_number}
+use Rattle.grammar_data.proofs.TokenSetLemmas.{IsTokenSet-set, with_token-lt, insert_members, no_words, no_token, IsTokenSet-no_words}
 use Rattle.state_laws.proofs.RefutedLemmas.{NotRefuted, decided}
 
 -- the set of the tokens below the bound that have the fact
@@ -17,9 +18,9 @@ module _ (P : ℕ → Type 0) where
     have = λ a. (λ h. absurd (false≢true (sym (no_token a) ∙ h)), λ below. let less = below.1 in absurd (omega arith));
   }
 
-  set_more : (n : ℕ) (words : List ℕ) → n < 256 → IsSetBelow P n words → P n → IsSetBelow P (suc n) (set words (n / 64) (with_token words n))
+  set_more : (n : ℕ) (words : List ℕ) → n < 256 → IsSetBelow P n words → P n → IsSetBelow P (suc n) (set words (n / 64) (with_number words n))
   set_more n words small is here = record {
-    set = IsTokenSet-set words (n / 64) (with_token words n) is.set (with_token-lt words n is.set small);
+    set = IsTokenSet-set words (n / 64) (with_number words n) is.set (with_token-lt words n is.set small);
     have = λ a. (λ h. there a (or_cases _ _ (sym (insert_members words n is.set small a) ∙ h)), λ below. insert_members words n is.set small a ∙ back a below.0 below.1 (cases_lt a n));
   }
     where
@@ -44,6 +45,6 @@ module _ (P : ℕ → Type 0) where
   set_found zero small refuted = refuted (no_words, set_begin)
   set_found (suc n) small refuted =
       set_found n (omega arith) (λ found. decided (P n) (λ d. ⊎_elim
-      (λ here. refuted (set found.0 (n / 64) (with_token found.0 n), set_more n found.0 (omega arith) found.1 here))
+      (λ here. refuted (set found.0 (n / 64) (with_number found.0 n), set_more n found.0 (omega arith) found.1 here))
       (λ not. refuted (found.0, set_same n found.0 found.1 not))
       d))

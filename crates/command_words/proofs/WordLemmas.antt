@@ -1,5 +1,5 @@
 -- Facts of words that are strings, and of words that are of a form.
-use Rattle.std.proofs.Common.{◌≡◌, ℕ, zero, suc, ◌==◌, true, ◌<◌, ◌≤◌, ◌⊎◌, inl, inr, List, [], ◌∷◌, ◌++◌, get_or, length, map, take, drop, All, Option, None, MatchOption, refl, sym, ap, subst, ◌∙◌, arith}
+use Rattle.std.proofs.Common.{◌≡◌, ℕ, suc, ◌==◌, true, ◌<◌, ◌≤◌, ◌⊎◌, inl, inr, List, [], ◌∷◌, ◌++◌, get_or, length, map, take, drop, All, Option, None, MatchOption, refl, sym, ap, subst, ◌∙◌, arith}
 use Rattle.std.proofs.lemmas.Bool.{eqb-true}
 use Rattle.std.proofs.lemmas.List.{take-append-drop, length-map}
 use Rattle.std.proofs.lemmas.List.Elements.{All-nil, All-cons, All-head, All-tail, All-map}
@@ -36,12 +36,17 @@ plain_of task (inl e) = subst (λ t. AreOptionsOf t []) (sym e) tokens_plain
 plain_of task (inr (inl e)) = subst (λ t. AreOptionsOf t []) (sym e) check_plain
 plain_of task (inr (inr e)) = subst (λ t. AreOptionsOf t []) (sym e) tables_plain
 
--- words that are a task's word, as many names as it reads, and options are parted so in each form that they are of
-pub same_form : (words names options : List (List ℕ)) (task : Task) → words ≡ word_of task ∷ names ++ options → length names ≡ suc (length (inputs_of task)) → (other : Task) (others : List (List ℕ)) (form : HasForm words other others) → (word_of other ≡ word_of task) × (others ≡ names) × (form.options ≡ options)
-same_form words names options task parts count other others form =
-    let heads : word_of other ≡ word_of task = cc (form.are, parts) in
-    let tails : others ++ form.options ≡ names ++ options = cc (form.are, parts) in
-    let counts : length others ≡ length names = form.fit.count ∙ names_said other ∙ ap (λ word. names_with (second word)) heads ∙ sym (names_said task) ∙ sym count in
+-- the words are a task's word, as many names as it reads, and options
+pub record AreParted (words names options : List (List ℕ)) (task : Task) : Type 0 where
+  pub parts : words ≡ word_of task ∷ names ++ options
+  pub count : length names ≡ suc (length (inputs_of task))
+
+-- such words are parted so in each form that they are of
+pub same_form : {words names options : List (List ℕ)} {task other : Task} {others : List (List ℕ)} → AreParted words names options task → (form : HasForm words other others) → (word_of other ≡ word_of task) × (others ≡ names) × (form.options ≡ options)
+same_form {names = names} {options = options} {task = task} {other = other} {others = others} are form =
+    let heads : word_of other ≡ word_of task = cc (form.are, are.parts) in
+    let tails : others ++ form.options ≡ names ++ options = cc (form.are, are.parts) in
+    let counts : length others ≡ length names = form.fit.count ∙ names_said other ∙ ap (λ word. names_with (second word)) heads ∙ sym (names_said task) ∙ sym are.count in
     let (same, rest) = same_parts others names form.options options counts tails in
     (heads, same, rest)
 
@@ -51,18 +56,25 @@ module _ {X : Type 0} (f : X → List ℕ) where
   map_both [] ys = refl
   map_both (x ∷ xs) ys = ap (λ l. f x ∷ l) (map_both xs ys)
 
-  pub mapped_parts : (words rest names options : List X) (word : X) (n : ℕ) → words ≡ word ∷ rest → names ≡ take n rest → options ≡ drop n rest → map f words ≡ f word ∷ map f names ++ map f options
+  mapped_parts : (words rest names options : List X) (word : X) (n : ℕ) → words ≡ word ∷ rest → names ≡ take n rest → options ≡ drop n rest → map f words ≡ f word ∷ map f names ++ map f options
   mapped_parts words rest names options word n e one two =
       let joined : rest ≡ names ++ options = sym (take-append-drop n rest) ∙ ap (λ l. l ++ drop n rest) (sym one) ∙ ap (λ l. names ++ l) (sym two) in
       ap (map f) e ∙ ap (λ l. f word ∷ l) (ap (map f) joined ∙ map_both names options)
+
+  pub parted : (words rest names options : List X) (word : X) (n : ℕ) (task : Task) → words ≡ word ∷ rest → names ≡ take n rest → options ≡ drop n rest → length names ≡ n
+      → f word ≡ word_of task → n ≡ suc (length (inputs_of task)) → AreParted (map f words) (map f names) (map f options) task
+  parted words rest names options word n task e one two taken said reads = record {
+    parts = mapped_parts words rest names options word n e one two ∙ ap (λ l. l ∷ map f names ++ map f options) said;
+    count = length-map names f ∙ taken ∙ reads;
+  }
 
 pub none_few : (n : ℕ) → true ≡ (n == 0) → n < 1
 none_few n e = omega (arith, eqb-true n 0 (sym e))
 
 -- such words are of no form where no task with this word has the options
-pub bad_by : (words names options : List (List ℕ)) (task : Task) → words ≡ word_of task ∷ names ++ options → length names ≡ suc (length (inputs_of task)) → ((other : Task) → word_of other ≡ word_of task → ¬ (AreOptionsOf other options)) → IsBadWords words
-bad_by words names options task parts count none other others form =
-    let same = same_form words names options task parts count other others form in
+pub bad_by : {words names options : List (List ℕ)} {task : Task} → AreParted words names options task → ((other : Task) → word_of other ≡ word_of task → ¬ (AreOptionsOf other options)) → IsBadWords words
+bad_by are none other others form =
+    let same = same_form are form in
     none other same.0 (subst (AreOptionsOf other) same.2 form.say)
 
 -- a fact of the answer that `?` makes of none

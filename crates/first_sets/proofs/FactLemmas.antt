@@ -2,14 +2,14 @@
 use Rattle.std.proofs.Common.{◌≡◌, ℕ, zero, suc, ◌<◌, ◌≤◌, inl, inr, ◌↔◌, Bool, false, IsTrue, List, [], ◌∷◌, length, take, get_or, Contains, All, Some, refl, sym, ap, subst, ◌∙◌, arith}
 use Rattle.std.proofs.lemmas.Bool.{cases_lt, false≢true, lt-ltb, ltb-true}
 use Rattle.std.proofs.lemmas.List.{get_or_past}
-use Rattle.std.proofs.lemmas.List.Elements.{All-head, All-tail, All-contains, Contains-get_or}
+use Rattle.std.proofs.lemmas.List.Elements.{All-contains, Contains-get_or}
 use Rattle.std.proofs.lemmas.Option.{slice_get_within, get_or_from_slice_get}
 use Rattle.grammar_data.specs.declared.rule.Sym.{Sym}
 use Rattle.grammar_data.specs.declared.rule.Sym.TheVariants.{Token, Name}
 use Rattle.grammar_data.specs.Grammar.{Grammar}
 use Rattle.lr_base.specs.IsGrammar.{IsGrammar, IsSymbolOf}
 use Rattle.grammar_data.specs.TokenSet.{IsTokenSet, has_token}
-use Rattle.grammar_theory.specs.Rules.{IsInRange, NamesBelow, TokensBelow, OnlyNames}
+use Rattle.grammar_theory.specs.Rules.{OnlyNames}
 use Rattle.grammar_theory.specs.UsefulNames.{AllProductive}
 use Rattle.grammar_theory.specs.EmptyNames.{IsNullable, IsSizedBelow}
 use Rattle.grammar_theory.specs.FirstTokens.{FirstHas, IsFirstBy, IsFirst}

@@ -2,7 +2,7 @@
 use Rattle.std.proofs.Common.{◌≡◌, ℕ, suc, ◌+◌, ◌<◌, ◌≤◌, ◌⊎◌, inl, inr, Bool, List, [], ◌∷◌, ◌++◌, length, take, get_or, slice_get, Contains, All, sym, ap, subst, ◌∙◌, arith}
 use Rattle.std.proofs.lemmas.Bool.{cases_lt, cases_eq}
 use Rattle.std.proofs.lemmas.List.{length-append, length-take-le, get_or-take, get_or_default}
-use Rattle.std.proofs.lemmas.List.Elements.{All-more, All-nil, Contains-push, Contains-push_cases, Contains-append_left}
+use Rattle.std.proofs.lemmas.List.Elements.{All-more, Contains-push, Contains-push_cases, Contains-append_left}
 use Rattle.grammar_data.specs.declared.rule.Sym.{Sym}
 use Rattle.grammar_data.specs.declared.rule.Sym.TheVariants.{Name}
 use Rattle.grammar_data.specs.Grammar.{Rule}
@@ -14,7 +14,7 @@ use Rattle.first_sets.specs.declared.opening.Opening.{Opening}
 use Rattle.first_sets.specs.Relations.{HasPair}
 use Rattle.first_sets.specs.KnownNames.{IsKnownSymbol}
 use Rattle.first_sets.specs.Openings.{IsVisible, opening, HasOpeningsOf, AreOpenings, AreReaders}
-use Rattle.first_sets.proofs.UseLemmas.{contains_none, same_pair}
+use Rattle.first_sets.proofs.UseLemmas.{same_pair}
 
 -- ---- one right side
 
@@ -25,15 +25,6 @@ pub record AreOpenedTo (nullable : List Bool) (left : ℕ) (right : List Sym) (p
   pub added : (k : ℕ) (x : Sym) → k < place → get_or right k x ≡ x → Contains new (opening left x)
   pub only : (o : Opening) → Contains new o → Contains old o ⊎ ((o.left ≡ left) × IsVisible nullable right o.symbol)
   pub few : length new ≤ length old + place
-
-pub opened_none : (nullable : List Bool) (left : ℕ) (right : List Sym) (old : List Opening) → AreOpenedTo nullable left right 0 old old
-opened_none nullable left right old = record {
-  front = All-nil (IsKnownSymbol nullable Empty);
-  kept = λ o has. has;
-  added = λ k x less is. absurd (omega arith);
-  only = λ o has. inl has;
-  few = omega arith;
-}
 
 same_opening : {n m : ℕ} {x y : Sym} → opening n x ≡ opening m y → (n ≡ m) × (x ≡ y)
 same_opening e = (ap (λ o. o.left) e, ap (λ o. o.symbol) e)
@@ -77,21 +68,7 @@ module _ (nullable : List Bool) (left : ℕ) (right : List Sym) (place : ℕ) (o
     few = omega (arith, h.few, length-append now (opening left x ∷ []), inside);
   }
 
-pub opened_all : (nullable : List Bool) (left : ℕ) (right : List Sym) (place : ℕ) (old new : List Opening) → place ≡ length right → AreOpenedTo nullable left right place old new → HasOpeningsOf nullable left right old new
-opened_all nullable left right place old new all h = record {
-  kept = h.kept;
-  added = λ x seen. h.added seen.0 x (omega (arith, seen.1)) seen.2;
-  only = h.only;
-  few = omega (arith, h.few);
-}
-
 -- ---- all right sides
-
-pub openings_none : (nullable : List Bool) → AreOpenings nullable [] []
-openings_none nullable = record {
-  every = λ r n right x rule seen. absurd (cc (rule.found));
-  only = λ o has. absurd (contains_none has);
-}
 
 pub openings_more : (nullable : List Bool) (front : List Rule) (left : ℕ) (side : List Sym) (old new : List Opening) → AreOpenings nullable front old → HasOpeningsOf nullable left side old new
     → AreOpenings nullable (front ++ (left, side) ∷ []) new
@@ -112,12 +89,6 @@ openings_more nullable front left side old new all h = record {
 }
 
 -- ---- the places of openings by their names
-
-pub readers_none : AreReaders [] []
-readers_none = record {
-  every = λ k m o at is. absurd (cc (at));
-  only = λ m k has. absurd (contains_none has);
-}
 
 pub readers_name : (front : List Opening) (last : Opening) (name : ℕ) (pairs : List (ℕ × ℕ)) → last.symbol ≡ Name name → AreReaders front pairs
     → AreReaders (front ++ last ∷ []) (pairs ++ (name, length front) ∷ [])

@@ -1,13 +1,10 @@
 -- Names are reached from the start until no right side has another one.
 use Rattle.std.proofs.Common.{◌≡◌, ◌↔◌, ℕ, ◌<◌, ◌⊎◌, inl, inr, Bool, true, false, IsTrue, List, [], ◌∷◌, ◌++◌, length, set, replicate, Contains, refl, sym, subst, ◌∙◌, arith}
 use Rattle.std.proofs.lemmas.List.{length-set, length-replicate}
-use Rattle.std.proofs.lemmas.Option.{slice_get_within, get_or_from_slice_get}
 use Rattle.std.proofs.lemmas.List.Elements.{Contains-push, Contains-push_cases, Contains-append_left, All-contains}
-use Rattle.grammar_data.specs.declared.rule.Sym.{Sym}
 use Rattle.grammar_data.specs.declared.rule.Sym.TheVariants.{Name}
 use Rattle.grammar_data.specs.Grammar.{Grammar}
-use Rattle.lr_base.specs.IsGrammar.{IsGrammar, IsRuleOf, IsSymbolOf}
-use Rattle.grammar_theory.specs.Rules.{IsRule}
+use Rattle.lr_base.specs.IsGrammar.{IsGrammar, IsSymbolOf}
 use Rattle.grammar_theory.specs.UsefulNames.{IsReachable, IsLedTo, at_start, in_right}
 use Rattle.grammar_theory.proofs.UsefulLemmas.{reachable_led}
 use Rattle.grammar_theory.proofs.NameLaws.{reachable_test_law}

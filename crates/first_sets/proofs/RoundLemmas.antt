@@ -39,16 +39,6 @@ size_is k j e = elim (cases_lt 0 k) [
 
 -- ---- what adds up
 
--- a symbol with no size adds up to nothing
-pub adds_none : (sizes : List ℕ) (x : Sym) (xs : List Sym) (rest : ℕ) → symbol_size_in sizes x ≡ 0 → AddsUp (size_in sizes) (x ∷ xs) rest → ⊥
-adds_none sizes (Token a) xs rest none sum = sum
-adds_none sizes (Name n) xs rest none sum = none_some (sym (no_size (get_or sizes n 0) none) ∙ sum.2)
-
--- nor one with a larger size
-pub adds_over : (sizes : List ℕ) (x : Sym) (xs : List Sym) (rest : ℕ) → rest < symbol_size_in sizes x → AddsUp (size_in sizes) (x ∷ xs) rest → ⊥
-adds_over sizes (Token a) xs rest over sum = sum
-adds_over sizes (Name n) xs rest over sum = let is = (size_is (get_or sizes n 0) sum.0 sum.2).0 in let at : rest ≡ sum.0 + sum.1 = sum.4 in omega arith
-
 -- any other takes its size off
 pub adds_more : (sizes : List ℕ) (x : Sym) (xs : List Sym) (rest : ℕ) → 0 < symbol_size_in sizes x → symbol_size_in sizes x ≤ rest
     → AddsUp (size_in sizes) (x ∷ xs) rest ↔ AddsUp (size_in sizes) xs (rest - symbol_size_in sizes x)
@@ -86,12 +76,6 @@ adds_nullable nullable table sized (Token a ∷ xs) total sum = absurd sum
 adds_nullable nullable table sized (Name n ∷ xs) total sum = All-cons (IsKnownSymbol nullable Empty) (Name n) xs (sized n sum.0 sum.2) (adds_nullable nullable table sized xs sum.1 sum.3)
 
 -- ---- the rules of a round
-
-pub empty_none : (nullable : List Bool) → AreEmptyRules [] nullable []
-empty_none nullable = record {
-  every = λ r n right rule all. absurd (cc (rule.found));
-  only = λ r has. absurd (contains_none has);
-}
 
 pub empty_rule : (front : List Rule) (left : ℕ) (side : List Sym) (nullable : List Bool) (numbers : List ℕ) → AreEmptyRules front nullable numbers
     → AreEmptyRules (front ++ (left, side) ∷ []) nullable (numbers ++ length front ∷ [])

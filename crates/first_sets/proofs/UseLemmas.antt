@@ -22,14 +22,6 @@ same_pair e = (ap (λ q. q.0) e, ap (λ q. q.1) e)
 
 -- ---- one right side
 
-pub names_none : (number : ℕ) (old : List (ℕ × ℕ)) → HasNamesOf [] number old old
-names_none number old = record {
-  kept = λ n k has. has;
-  added = λ n has. absurd (contains_none has);
-  only = λ n k has. inl has;
-  few = omega arith;
-}
-
 pub names_token : (front : List Sym) (a number : ℕ) (old new : List (ℕ × ℕ)) → HasNamesOf front number old new → HasNamesOf (front ++ Token a ∷ []) number old new
 names_token front a number old new h = record {
   kept = h.kept;
@@ -60,12 +52,6 @@ names_name front m number old new h = record {
 
 -- ---- all right sides
 
-pub uses_none : AreUses [] []
-uses_none = record {
-  every = λ r n m right rule has. absurd (cc (rule.found));
-  only = λ m r has. absurd (contains_none has);
-}
-
 last_rule : (front : List Rule) (n : ℕ) (right : List Sym) → IsRule (front ++ (n, right) ∷ []) (length front) n right
 last_rule front n right = record { found = slice_get_last front (n, right) }
 
@@ -95,12 +81,6 @@ use_in_range rules pairs m r uses has = let found = uses.only m r has in slice_g
 pub record AreMentionsOf (rules : List Rule) (uses pairs : List (ℕ × ℕ)) : Type 0 where
   pub every : (m r n : ℕ) (right : List Sym) → HasPair uses m r → IsRule rules r n right → HasPair pairs n m
   pub only : (n m : ℕ) → HasPair pairs n m → (r : ℕ) × (right : List Sym) × IsRule rules r n right × Contains right (Name m)
-
-pub mentions_none : (rules : List Rule) → AreMentionsOf rules [] []
-mentions_none rules = record {
-  every = λ m r n right has rule. absurd (contains_none has);
-  only = λ n m has. absurd (contains_none has);
-}
 
 pub mentions_more : (rules : List Rule) (uses pairs : List (ℕ × ℕ)) (name number left : ℕ) (side : List Sym) → IsRule rules number left side → Contains side (Name name)
     → AreMentionsOf rules uses pairs → AreMentionsOf rules (uses ++ (name, number) ∷ []) (pairs ++ (left, name) ∷ [])

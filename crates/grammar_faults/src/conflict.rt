@@ -11,9 +11,9 @@ pub struct Item {
 }
 
 impl Model for Item {
-    ghost use Rattle.item_theory.specs.Items.{Item as Parts};
+    ghost use Rattle.item_theory.specs.Items.{Item as ItemParts};
 
-    ghost Value = { Parts };
+    ghost Value = { ItemParts };
 
     ghost view = { λ s. record { rule = s.rule; dot = s.dot; ahead = s.ahead } };
 

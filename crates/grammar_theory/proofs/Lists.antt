@@ -6,10 +6,6 @@ pub data Splits {X : Type 0} (xs ys front : List X) (z : X) (back : List X) : Ty
   in_first : (mid : List X) → xs ≡ front ++ z ∷ mid → back ≡ mid ++ ys → Splits xs ys front z back
   in_second : (mid : List X) → front ≡ xs ++ mid → ys ≡ mid ++ z ∷ back → Splits xs ys front z back
 
-splits_more : {X : Type 0} {x : X} {xs ys front : List X} {z : X} {back : List X} → Splits xs ys front z back → Splits (x ∷ xs) ys (x ∷ front) z back
-splits_more {x = x} (in_first mid at rest) = in_first mid (ap (λ l. x ∷ l) at) rest
-splits_more {x = x} (in_second mid at rest) = in_second mid (ap (λ l. x ∷ l) at) rest
-
 splits_along : {X : Type 0} {x y : X} {xs ys front : List X} {z : X} {back : List X} → x ≡ y → Splits xs ys front z back → Splits (x ∷ xs) ys (y ∷ front) z back
 splits_along {x = x} e (in_first mid at rest) = in_first mid (cc) rest
 splits_along {x = x} e (in_second mid at rest) = in_second mid (cc) rest

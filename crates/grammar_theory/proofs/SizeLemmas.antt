@@ -5,8 +5,7 @@ use Rattle.grammar_data.specs.declared.rule.Sym.{Sym}
 use Rattle.grammar_data.specs.declared.rule.Sym.TheVariants.{Token, Name}
 use Rattle.grammar_data.specs.Grammar.{Rule, Grammar}
 use Rattle.grammar_theory.specs.Rules.{IsRule}
-use Rattle.grammar_theory.specs.EmptyNames.{IsNullable, Vanishes, no_symbol, name_gone, HasEmptySize, AddsUp, HasRightSide, IsSizedBelow, IsNextRound}
-use Rattle.grammar_theory.proofs.EmptyLemmas.{VanishesSome, vanishes_some, vanishes_of_derives, derives_of_vanishes}
+use Rattle.grammar_theory.specs.EmptyNames.{Vanishes, no_symbol, name_gone, HasEmptySize, AddsUp, HasRightSide, IsSizedBelow, IsNextRound}
 
 some_none : {k : ℕ} → ◌≡◌ {A = Option ℕ} (Some k) None → ⊥
 some_none e = cc
@@ -15,13 +14,6 @@ some_same : {j k : ℕ} → ◌≡◌ {A = Option ℕ} (Some j) (Some k) → j �
 some_same e = cc
 
 -- ---- empty trees of a name and of what stands behind it
-
--- an empty tree of the first name, and those of the other symbols
-pub data GoneParts (rules : List Rule) (n : ℕ) (xs : List Sym) (k : ℕ) : Type 0 where
-  gone_parts : {i j : ℕ} → Vanishes rules (Name n ∷ []) i → Vanishes rules xs j → k ≡ i + j → GoneParts rules n xs k
-
-pub parts_of_gone : {rules : List Rule} {n : ℕ} {xs : List Sym} {k : ℕ} → Vanishes rules (Name n ∷ xs) k → GoneParts rules n xs k
-parts_of_gone (name_gone {i = i} {j = j} rule d rest at) = gone_parts (name_gone {k = suc i} rule d no_symbol (omega arith)) rest (omega arith)
 
 no_more : {rules : List Rule} {k : ℕ} → Vanishes rules [] k → k ≡ 0
 no_more no_symbol = refl

@@ -214,44 +214,9 @@ row_none from old work = record {
   only = λ m b h. inl h;
 }
 
--- a token is no name
-pub row_token : (spot : Spot) (t : ℕ) (from : List ℕ) (old : List (List ℕ)) (work : List ℕ) → spot.symbol ≡ Token t → IsRowOpened (spot ∷ []) from old work old work
-row_token spot t from old work token = record {
-  grown = grown_none old work;
-  has = λ other m b h is carried. absurd (let e : spot ≡ other = only_one spot other h in let k : Token t ≡ Name m = sym token ∙ ap (λ s. s.symbol) e ∙ is in cc);
-  only = λ m b h. inl h;
-}
-  where
-    only_one : {X : Type 0} (x y : X) → Contains (x ∷ []) y → x ≡ y
-    only_one x y h = one (Contains-push_cases [] x y h)
-      where
-        one : Contains [] y ⊎ (x ≡ y) → x ≡ y
-        one (inl none) = absurd (nothing_in y none)
-        one (inr e) = e
-
 module _ (spot : Spot) (n : ℕ) (from tokens : List ℕ) (old : List (List ℕ)) (work : List ℕ) (new : List (List ℕ)) (later : List ℕ) where
-  one_spot : (other : Spot) → Contains [] other ⊎ (spot ≡ other) → spot ≡ other
-  one_spot other (inl none) = absurd (nothing_in other none)
-  one_spot other (inr e) = e
-
   same_name : (m : ℕ) → spot.symbol ≡ Name n → spot.symbol ≡ Name m → m ≡ n
   same_name m e f = let k : Name m ≡ Name n = sym f ∙ e in cc
-
-  added_from_row : (m b : ℕ) → spot.symbol ≡ Name n → ((c : ℕ) → has_token tokens c ≡ carries spot from c) → IsTrue (ahead_in old m b) ⊎ ((m ≡ n) × IsTrue (has_token tokens b))
-      → IsTrue (ahead_in old m b) ⊎ ((other : Spot) × Contains (spot ∷ []) other × (other.symbol ≡ Name m) × IsTrue (carries other from b))
-  added_from_row m b is carried (inl h) = inl h
-  added_from_row m b is carried (inr h) = inr (spot, Contains-push [] spot, is ∙ ap Name (sym h.0), sym (carried b) ∙ h.1)
-
-  -- the spot's name gets what the spot carries
-  pub row_name : spot.symbol ≡ Name n → ((c : ℕ) → has_token tokens c ≡ carries spot from c) → IsAdded n tokens old work new later → IsRowOpened (spot ∷ []) from old work new later
-  row_name is carried added = record {
-    grown = added.grown;
-    has = λ other m b h at carries_b.
-        let e : spot ≡ other = one_spot other (Contains-push_cases [] spot other h) in
-        let k : m ≡ n = same_name m is (ap (λ s. s.symbol) e ∙ at) in
-        subst (λ i. IsTrue (ahead_in new i b)) (sym k) (added.has b (carried b ∙ ap (λ (s : Spot). carries s from b) e ∙ carries_b));
-    only = λ m b h. added_from_row m b is carried (added.only m b h);
-  }
 
 module _ (old : List (List ℕ)) (work : List ℕ) (mid : List (List ℕ)) (between : List ℕ) (new : List (List ℕ)) (later : List ℕ) where
   waits_on : (n : ℕ) → IsGrown old work mid between → IsGrown mid between new later → Contains between n ⊎ ((n < length new) × (a : ℕ) × IsTrue (ahead_in new n a)) → Contains work n ⊎ ((n < length new) × (a : ℕ) × IsTrue (ahead_in new n a))

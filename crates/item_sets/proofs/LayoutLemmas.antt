@@ -3,7 +3,7 @@ use Rattle.std.proofs.Common.{◌≡◌, ℕ, zero, suc, ◌+◌, ◌-◌, ◌<�
 use Rattle.std.specs.List.{AllPairs}
 use Rattle.std.specs.Option.{option_map}
 use Rattle.std.proofs.lemmas.Bool.{or_left, or_right, or_cases, false≢true, cases_eq, cases_lt, cases_Bool}
-use Rattle.std.proofs.lemmas.List.{get_or-drop, length-drop, drop_more}
+use Rattle.std.proofs.lemmas.List.{get_or-drop, length-drop}
 use Rattle.std.proofs.lemmas.List.Elements.{All-head, All-tail, All-cons, All-drop, All-push, All-weaker}
 use Rattle.std.proofs.lemmas.List.Kept.{AllPairs-cons}
 use Rattle.std.proofs.lemmas.Option.{same_Some, none-some, slice_get_within}
@@ -95,17 +95,6 @@ rule_with_left g r n h = cases (slice_get g.rules r) refl h
     cases (Some (l, right)) at e = (right, record { found = subst (λ k. slice_get g.rules r ≡ Some (k, right)) (same_Some _ _ e) at })
 
 -- ---- laying out
-
-pub laid_begin : (g : Grammar) (kernel : List Entry) (aheads : List (List ℕ)) → AreEntries g kernel → IsLaid g kernel aheads 0 0 0 []
-laid_begin g kernel aheads are = record {
-  within = omega arith;
-  whole = are;
-  old = λ i h. h;
-  opened = λ i less o. absurd (omega arith);
-  only = λ i h. inl h;
-  below = λ k d less. absurd (omega arith);
-  above = λ k d less. omega arith;
-}
 
 module _ (g : Grammar) (kernel : List Entry) (aheads : List (List ℕ)) (r next n : ℕ) (right : List Sym) (ahead : List ℕ) (entries : List Entry)
     (laid : IsLaid g kernel aheads r r next entries) (is_kernel : IsKernel g kernel) (rule : IsRule g.rules r n right) (set : IsTokenSet ahead) (is : ahead ≡ get_or aheads n []) where
@@ -236,11 +225,6 @@ module _ (g : Grammar) (kernel : List Entry) (aheads : List (List ℕ)) (r at : 
     below = moved.below laid.below;
     above = λ k d less. subst (λ (e : Entry). suc r ≤ e.rule) (sym (get_or-drop next kernel k d)) (later_above k d (omega (arith, length-drop next kernel)));
   }
-
--- one more of the kernel
-pub moved_one : (r : ℕ) (kernel : List Entry) (at : ℕ) (old : List Entry) (next : ℕ) (new : List Entry) (d : Entry) → next < length kernel → new ++ drop next kernel ≡ old ++ drop at kernel → (new ++ get_or kernel next d ∷ []) ++ drop (next + 1) kernel ≡ old ++ drop at kernel
-moved_one r kernel at old next new d less same =
-    append_assoc new (get_or kernel next d ∷ []) (drop (next + 1) kernel) ∙ ap (λ l. new ++ l) (sym (drop_more kernel next d less)) ∙ same
 
 -- after the last rule what is left of the kernel is put last
 pub laid_end : (g : Grammar) (kernel : List Entry) (aheads : List (List ℕ)) (next : ℕ) (entries new : List Entry) → IsLaid g kernel aheads (length g.rules) (length g.rules) next entries → new ≡ entries ++ drop next kernel → IsLaidOut g kernel aheads new

@@ -5,12 +5,13 @@ use Rattle.std.specs.Global.{Vec}
 use Rattle.std.specs.Map.{lookup}
 use Rattle.std.proofs.lemmas.Bool.{or_left, or_cases, false≢true, eq-eqb, eqb-true}
 use Rattle.std.proofs.lemmas.List.{get_or_default}
-use Rattle.std.proofs.lemmas.List.Elements.{All-from_get_or, All-cons, All-nil, All-weaker}
-use Rattle.std.proofs.lemmas.Option.{slice_get-get_or, slice_get_within, cond_some, same_Some, none-some}
+use Rattle.std.proofs.lemmas.List.Elements.{All-from_get_or, All-cons, All-nil}
+use Rattle.std.proofs.lemmas.Option.{slice_get-get_or, cond_some, same_Some, none-some}
 use Rattle.std.specs.Cmp.Lexicographic.{same_text}
 use Rattle.grammar_data.specs.declared.rule.Sym.{Sym}
 use Rattle.grammar_data.specs.declared.rule.Sym.TheVariants.{Token, Name}
 use Rattle.grammar_data.specs.Grammar.{Grammar}
+use Rattle.lr_base.specs.declared.limits.TheConstants.{SIDE_SYMBOLS}
 use Rattle.lr_base.specs.IsGrammar.{IsGrammar}
 use Rattle.grammar_theory.specs.Rules.{IsRule}
 use Rattle.grammar_theory.specs.UsefulNames.{AllProductive}
@@ -39,10 +40,10 @@ some_spot : Spot
 some_spot = record { symbol = Token 0; column = 0; first = []; passes = false }
 
 module _ (g : Grammar) (rows fronts : List (List Spot)) (grammar : IsGrammar g) (table : IsTable g rows fronts) where
-  right_short : (r n : ℕ) (right : List Sym) → IsRule (all_rules g) r n right → length right ≤ 20
+  right_short : (r n : ℕ) (right : List Sym) → IsRule (all_rules g) r n right → length right ≤ SIDE_SYMBOLS
   right_short r n right rule = cases (which_rule g rule)
     where
-      cases : WhichRule g r n right → length right ≤ 20
+      cases : WhichRule g r n right → length right ≤ SIDE_SYMBOLS
       cases (is_own own) = (rule_of g grammar r n right own).short
       cases (is_last at left is) = let size = ap length is in omega arith
 
@@ -53,8 +54,8 @@ module _ (g : Grammar) (rows fronts : List (List Spot)) (grammar : IsGrammar g) 
       let is : IsRule (all_rules g) r rule.0 rule.1 = record { found = slice_get-get_or (all_rules g) r (0, []) within } in
       each r rule.0 rule.1 is (table.spots.each r rule.0 rule.1 is))
 
-  all_short : All (λ row. length row ≤ 20) rows
-  all_short = row_of (λ row. length row ≤ 20) (λ r n right rule are. let le = right_short r n right rule in omega (arith, are.count))
+  all_short : All (λ row. length row ≤ SIDE_SYMBOLS) rows
+  all_short = row_of (λ row. length row ≤ SIDE_SYMBOLS) (λ r n right rule are. let le = right_short r n right rule in omega (arith, are.count))
 
   all_columns : All (λ row. All (λ (spot : Spot). spot.column < g.tokens + g.names) row) rows
   all_columns = row_of (λ row. All (λ (spot : Spot). spot.column < g.tokens + g.names) row) (λ r n right rule are.

@@ -58,9 +58,6 @@ front_symbol g spots spot x xs are e = let at = are.each 0 spot e in let same : 
 first_same : {X : Type 0} {y z : X} {ys zs : List X} → y ∷ ys ≡ z ∷ zs → (y ≡ z) × (ys ≡ zs)
 first_same e = (cc, cc)
 
-left_same : {A B : Type 0} {a c : A} {b d : B} → ◌≡◌ {A = Option (A × B)} (Some (a, b)) (Some (c, d)) → (a ≡ c) × (b ≡ d)
-left_same {A = A} {B = B} {a = a} {c = c} {b = b} {d = d} e = let p : ◌≡◌ {A = A × B} (a, b) (c, d) = cc in (ap (λ q. q.0) p, ap (λ q. q.1) p)
-
 -- the rule's left side, and the row of its spots
 pub record IsFrontOf (g : Grammar) (rows : List (List Spot)) (r n : ℕ) (row : List Spot) : Type 0 where
   pub are : AreRuleSpots g rows
@@ -93,10 +90,6 @@ not_opened g rows r n row front none m after rule = no_opening g row (Name m) af
 
 pub token_opened : (g : Grammar) (rows : List (List Spot)) (r n : ℕ) (row : List Spot) → IsFrontOf g rows r n row → (spot : Spot) (a : ℕ) → slice_get row 0 ≡ Some spot → spot.symbol ≡ Token a → (m : ℕ) (after : List Sym) → IsRule g.rules r n (Name m ∷ after) → ⊥
 token_opened g rows r n row front spot a at is m after rule = let e = front_symbol g row spot (Name m) after (row_spots g rows r n row front n (Name m ∷ after) rule) at in absurd (cc)
-
--- another left side
-pub other_left : (g : Grammar) (r n k m : ℕ) (after : List Sym) → option_map (λ (rule : Rule). rule.0) (slice_get g.rules r) ≡ Some k → (k ≡ n → ⊥) → IsRule g.rules r n (Name m ∷ after) → ⊥
-other_left g r n k m after left apart rule = apart (same_Some _ _ (sym left ∙ ap (option_map (λ (p : Rule). p.0)) rule.found))
 
 -- ---- the fronts of one more rule
 

@@ -10,6 +10,7 @@ use Rattle.grammar_theory.specs.UsefulNames.{AllProductive}
 use Rattle.grammar_theory.specs.FirstTokens.{IsFound}
 use Rattle.item_theory.specs.Items.{Item, Dotted}
 use Rattle.item_theory.specs.Chains.{Closure}
+use Rattle.lr_base.specs.declared.limits.TheConstants.{NAMES, SIDE_SYMBOLS, TOKENS}
 use Rattle.collection_data.specs.declared.entry.Entry.{Entry}
 use Rattle.item_sets.specs.declared.spot.Spot.{Spot}
 use Rattle.collection_data.specs.Entries.{entries_have}
@@ -91,9 +92,9 @@ pub record IsSetting (g : Grammar) (rows fronts : List (List Spot)) : Type 0 whe
   pub range : IsInRange g
   pub productive : AllProductive g
   pub table : IsTable g rows fronts
-  pub few : g.tokens + g.names < 1000
+  pub few : g.tokens + g.names ≤ TOKENS + NAMES
   pub few_tokens : g.tokens < 256
-  pub short : All (λ row. length row ≤ 20) rows
+  pub short : All (λ row. length row ≤ SIDE_SYMBOLS) rows
   pub columns : All (λ row. All (λ (spot : Spot). spot.column < g.tokens + g.names) row) rows
 
 -- the item has its dot before a name, and opens the rules of that name with this lookahead

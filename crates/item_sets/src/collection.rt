@@ -1,5 +1,6 @@
-ghost use Rattle.std.specs.Prelude.{◌≡◌, ◌<◌, ◌≤◌, ◌+◌, ◌*◌, IfSome, length};
+ghost use Rattle.std.specs.Prelude.{◌≡◌, ◌<◌, ◌≤◌, ◌+◌, ◌*◌, ◌^◌, IfSome, length};
 ghost use Rattle.collection_data.specs.Collection.{column_of, items_in, state_count, step_in};
+ghost use Rattle.lr_base.specs.declared.limits.TheConstants.{NAMES, TOKENS};
 ghost use Rattle.table_data.specs.declared.limits.TheConstants.{MOST_STATES};
 
 use crate::item_set::ItemSet;
@@ -19,21 +20,22 @@ pub struct Collection {
 }
 
 impl Model for Collection {
-    ghost use Rattle.std.specs.Prelude.{◌≡◌, ◌<◌, ◌≤◌, ◌+◌, ◌*◌, length};
+    ghost use Rattle.std.specs.Prelude.{◌≡◌, ◌≤◌, ◌+◌, ◌*◌, length};
     ghost use Rattle.collection_data.specs.Collection.{CollectionParts};
+    ghost use Rattle.lr_base.specs.declared.limits.TheConstants.{NAMES, TOKENS};
     ghost use Rattle.table_data.specs.declared.limits.TheConstants.{MOST_STATES};
 
     ghost Value = { CollectionParts };
 
     ghost view = { λ s. record { tokens = s.tokens; names = s.names; states = s.states.items; steps = s.steps.items } };
 
-    ghost invariant = { λ s. (s.tokens + s.names < 1000) × (length s.states.items ≤ MOST_STATES)
+    ghost invariant = { λ s. (s.tokens + s.names ≤ TOKENS + NAMES) × (length s.states.items ≤ MOST_STATES)
         × (length s.steps.items ≡ length s.states.items * (s.tokens + s.names)) };
 }
 
 /// Where in a state's row the symbol stands.
 pub fn column(symbol: Sym, tokens: u32, names: u32) -> Option<u32>
-    requires { tokens + names < 1000 }
+    requires { tokens + names < 2 ^ 32 }
     ensures place { result ≡ column_of tokens names symbol }
     ensures within { IfSome result (λ column. column < tokens + names) }
 {
@@ -52,7 +54,7 @@ impl Collection {
         states: Vec<ItemSet>,
         steps: Vec<StateCell>,
     ) -> Collection
-        requires few_symbols { tokens + names < 1000 }
+        requires few_symbols { tokens + names ≤ TOKENS + NAMES }
         requires few_states { length states.items ≤ MOST_STATES }
         requires rows { length steps.items ≡ length states.items * (tokens + names) }
         ensures { result ≡ record { tokens = tokens; names = names; states = states.items; steps = steps.items } }

@@ -1,5 +1,6 @@
-ghost use Rattle.std.specs.Prelude.{◌≡◌, ◌<◌, ◌≤◌, ◌+◌, Some, All, IfOk, length};
+ghost use Rattle.std.specs.Prelude.{◌≡◌, ◌<◌, ◌≤◌, ◌+◌, ◌^◌, Some, All, IfOk, length};
 ghost use Rattle.collection_data.specs.Collection.{column_of};
+ghost use Rattle.lr_base.specs.declared.limits.TheConstants.{NAMES, TOKENS};
 ghost use Rattle.lr_base.specs.IsGrammar.{IsSymbolOf};
 ghost use Rattle.grammar_data.specs.TokenSet.{IsTokenSet};
 ghost use Rattle.first_sets.specs.NameFacts.{AreFirsts, names_in};
@@ -37,7 +38,7 @@ impl Model for Spots {
 
 /// The first tokens of some symbols, and whether the symbols are nullable names alone.
 fn rest(firsts: &Firsts, symbols: &[Sym]) -> (TokenSet, bool)
-    requires { All (IsSymbolOf 250 (names_in firsts.now)) symbols.now }
+    requires { All (IsSymbolOf TOKENS (names_in firsts.now)) symbols.now }
     ensures rest { IsRestBy firsts.now symbols.now result.0 result.1 }
     ensures set { IsTokenSet result.0 }
 {
@@ -61,7 +62,7 @@ fn rest(firsts: &Firsts, symbols: &[Sym]) -> (TokenSet, bool)
 
 /// Where in a state's row a symbol of the grammar stands.
 fn column_in(symbol: Sym, tokens: u32, names: u32) -> u32
-    requires few { tokens + names < 1000 }
+    requires few { tokens + names < 2 ^ 32 }
     requires symbol { IsSymbolOf tokens names symbol }
     ensures { column_of tokens names symbol ≡ Some result }
 {
@@ -75,7 +76,7 @@ fn column_in(symbol: Sym, tokens: u32, names: u32) -> u32
 fn spot_at(grammar: &Grammar, firsts: &Firsts, right: &[Sym], dot: usize) -> Spot
     requires facts { AreFirsts grammar.now firsts.now }
     requires symbols { All (IsSymbolOf grammar.now.tokens grammar.now.names) right.now }
-    requires few { (grammar.now.tokens ≤ 250) × (grammar.now.names ≤ 500) }
+    requires few { (grammar.now.tokens ≤ TOKENS) × (grammar.now.names ≤ NAMES) }
     requires within { dot < length right.now }
     ensures { IsSpotAt grammar.now right.now dot result }
 {
@@ -98,7 +99,7 @@ pub fn spots_of(
 ) -> Result<Spots, AllocError>
     requires facts { AreFirsts grammar.now firsts.now }
     requires symbols { All (IsSymbolOf grammar.now.tokens grammar.now.names) right.now }
-    requires few { (grammar.now.tokens ≤ 250) × (grammar.now.names ≤ 500) }
+    requires few { (grammar.now.tokens ≤ TOKENS) × (grammar.now.names ≤ NAMES) }
     ensures { IfOk result (λ spots. AreSpots grammar.now right.now spots) }
 {
     let mut spots = Vec::with_capacity(alloc, right.len())?;

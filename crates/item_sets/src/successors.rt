@@ -1,5 +1,6 @@
 ghost use Rattle.std.specs.Prelude.{◌≡◌, ◌<◌, ◌≤◌, List, [], length, slice_get, slice_index_or, All, IfOk, replicate};
 ghost use Rattle.collection_data.specs.declared.entry.Entry.{Entry as Lookaheads};
+ghost use Rattle.lr_base.specs.declared.limits.TheConstants.{SIDE_SYMBOLS};
 ghost use Rattle.item_sets.specs.declared.spot.Spot.{Spot as Place};
 ghost use Rattle.item_sets.specs.Successors.{AreSuccessors, IsPushed};
 
@@ -24,7 +25,7 @@ fn empty_sets(alloc: Global, count: u32) -> Result<Vec<ItemSet>, AllocError>
 /// Puts an entry whose dot is moved over the symbol behind it, if there is one, last in that symbol's kernel.
 fn push_moved(kernels: &mut Vec<ItemSet>, table: &Table, entry: &Entry) -> Result<(), AllocError>
     requires rule { entry.now.rule < length table.now.rows.items }
-    requires short { All (λ (row : List Place). length row ≤ 20) table.now.rows.items }
+    requires short { All (λ (row : List Place). length row ≤ SIDE_SYMBOLS) table.now.rows.items }
     requires columns { All (λ row. All (λ (spot : Place). spot.column < length kernels.old.items) row) table.now.rows.items }
     ensures { IfOk result (λ _. IsPushed (slice_get (slice_index_or table.now.rows.items entry.now.rule []) entry.now.dot) entry.now kernels.old.items kernels.new.items) }
 {
@@ -47,7 +48,7 @@ pub fn successors(
     entries: &[Entry],
 ) -> Result<Vec<ItemSet>, AllocError>
     requires rules { All (λ (e : Lookaheads). e.rule < length table.now.rows.items) entries.now }
-    requires short { All (λ (row : List Place). length row ≤ 20) table.now.rows.items }
+    requires short { All (λ (row : List Place). length row ≤ SIDE_SYMBOLS) table.now.rows.items }
     requires columns { All (λ row. All (λ (spot : Place). spot.column < width) row) table.now.rows.items }
     ensures { IfOk result (λ kernels. AreSuccessors table.now.rows.items width entries.now kernels.items) }
 {

@@ -96,10 +96,6 @@ pub word_irreflexive : (xs : List Sym) → IsWordBefore xs xs → ⊥
 word_irreflexive xs (inl h) = lt_irrefl (length xs) h
 word_irreflexive xs (inr h) = list_irreflexive xs h.1
 
-pub not_word_before : (xs ys : List Sym) → (xs ≡ ys) ⊎ IsWordBefore xs ys → IsWordBefore ys xs → ⊥
-not_word_before xs ys (inl e) h = word_irreflexive xs (subst (λ l. IsWordBefore l xs) (sym e) h)
-not_word_before xs ys (inr k) h = word_irreflexive xs (word_transitive xs ys xs k h)
-
 -- ---- one more symbol
 
 list_push : (xs ys : List Sym) (x y : Sym) → IsListBefore xs ys → IsListBefore (xs ++ x ∷ []) (ys ++ y ∷ [])

@@ -1,6 +1,6 @@
 -- The way down the tree to the node of which a range is a part.
 use Rattle.std.proofs.Common.{◌≡◌, ℕ, ◌+◌, ◌/◌, ◌<◌, ◌≤◌, ⊎_elim, Bool, true, false, sym, ap, ◌∙◌, subst, arith}
-use Rattle.core_theory.specs.Tree.{Range, left_part, right_part, part_of, IsRange, part, IsNode, IsParent, IsWithin}
+use Rattle.core_theory.specs.Tree.{Range, left_part, right_part, part_of, IsRange, part, IsNode, IsWithin}
 use Rattle.core_theory.proofs.TreeLemmas.{range_inside, within_trans, not_within, nested}
 use Rattle.core_theory.proofs.CoverLemmas.{part_is_parent}
 use Rattle.join_core.specs.Nodes.{range_from}
@@ -21,9 +21,6 @@ pub record IsOnWay (leaves first last low high : ℕ) : Type 0 where
   pub range : IsRange leaves (range_from low high)
   pub within : IsWithin (range_from first last) (range_from low high)
   pub differs : range_from first last ≡ range_from low high → ⊥
-
-pub same_range : {first last low high : ℕ} → first ≡ low → last ≡ high → range_from first last ≡ range_from low high
-same_range from upto = λ i. range_from (from i) (upto i)
 
 pub split_in_two : {leaves first last low high : ℕ} → IsRange leaves (range_from first last) → IsOnWay leaves first last low high → low + 2 ≤ high
 split_in_two is way = (proper_part is way.range way.within way.differs).1.split
@@ -67,15 +64,3 @@ way_right {leaves} {first} {last} {low} {high} {boundary} is way at behind diffe
       within = within;
       differs = λ same. differs (ap (λ r. r.first) same ∙ sym at) (ap (λ r. r.last) same);
     })
-
-pub found_left : {leaves first last low high boundary : ℕ} → IsRange leaves (range_from first last) → IsOnWay leaves first last low high → boundary ≡ (low + high) / 2 → first ≡ low → last ≡ boundary → IsParent leaves (range_from first last) (range_from low high) true
-found_left is way at from upto = record {
-  inner = record { range = way.range; split = split_in_two is way };
-  part = same_range from (upto ∙ at);
-}
-
-pub found_right : {leaves first last low high boundary : ℕ} → IsRange leaves (range_from first last) → IsOnWay leaves first last low high → boundary ≡ (low + high) / 2 → first ≡ boundary → last ≡ high → IsParent leaves (range_from first last) (range_from low high) false
-found_right is way at from upto = record {
-  inner = record { range = way.range; split = split_in_two is way };
-  part = same_range (from ∙ at) upto;
-}

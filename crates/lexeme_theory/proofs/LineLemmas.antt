@@ -80,12 +80,6 @@ pub line_same_next : (bytes : List ℕ) (at : ℕ) → at + 1 < length bytes →
 line_same_next bytes at inside other =
     let e : line_of bytes (at + 1) ≡ line_of bytes at + 0 = next_line bytes at false inside other in omega (arith, e)
 
--- the end stands on the line of the last byte
-pub line_end_next : (bytes : List ℕ) (at : ℕ) → length bytes ≡ at + 1 → line_of bytes (at + 1) ≡ line_of bytes at
-line_end_next bytes at last =
-    let same : min (at + 1 + 1) (length bytes) ≡ min (at + 1) (length bytes) = omega arith in
-    ap (λ n. max 1 (lines_before bytes n)) same
-
 pub line_most : (bytes : List ℕ) (at : ℕ) → line_of bytes at ≤ at + 1
 line_most bytes at = let most = lines_before-most bytes (min (at + 1) (length bytes)) in omega (arith, most)
 

@@ -9,13 +9,14 @@ use Rattle.lexeme_theory.specs.Reading.AreLexemes.{no_lexeme, blank_first, lexem
 use Rattle.lexeme_theory.proofs.FoundLemmas.{found_once}
 use Rattle.lexeme_theory.proofs.EndLemmas.{found_ends}
 
-same_blank : (n m : ℕ) → blank_found n ≡ blank_found m → n ≡ m
+-- what is found is one thing
+pub same_blank : (n m : ℕ) → blank_found n ≡ blank_found m → n ≡ m
 same_blank n m e = cc
 
-same_lexeme : (l k : Lexeme) (n m : ℕ) → lexeme_found l n ≡ lexeme_found k m → (l ≡ k) × (n ≡ m)
+pub same_lexeme : (l k : Lexeme) (n m : ℕ) → lexeme_found l n ≡ lexeme_found k m → (l ≡ k) × (n ≡ m)
 same_lexeme l k n m e = (cc, cc)
 
-no_blank_lexeme : (n m : ℕ) (l : Lexeme) → blank_found n ≡ lexeme_found l m → ⊥
+pub no_blank_lexeme : (n m : ℕ) (l : Lexeme) → blank_found n ≡ lexeme_found l m → ⊥
 no_blank_lexeme n m l e = cc
 
 module _ (bytes : List ℕ) where

@@ -1,9 +1,9 @@
 -- A text stands for one list of bytes at most, and whether it does is decided.
-use Rattle.std.proofs.Common.{◌≡◌, ℕ, zero, suc, ◌+◌, ◌*◌, ◌<◌, ◌≤◌, ◌⊎◌, Bool, true, false, cond, List, [], ◌∷◌, length, refl, sym, ap, subst, ◌∙◌, inl, inr, ⊎_elim, arith}
-use Rattle.std.specs.Prelude.{◌==◌, ◌&&◌, Option, None, Some, MatchOption}
+use Rattle.std.proofs.Common.{◌≡◌, ℕ, zero, suc, ◌<◌, ◌≤◌, ◌⊎◌, List, [], ◌∷◌, length, refl, sym, ap, subst, ◌∙◌, inl, inr, ⊎_elim, arith}
+use Rattle.std.specs.Prelude.{Option, None, Some}
 use Rattle.std.proofs.lemmas.Option.{none-some, same_Some}
-use Rattle.sheet_theory.specs.Names.{backslash}
-use Rattle.lexeme_theory.specs.Escapes.{Front, is_hex_digit, hex_value, escape_of, front_by_digits, front_with, front_by_escape, front_of, Spells}
+use Rattle.pattern_data.proofs.EscapeLemmas.{IsShorter, front_shorter}
+use Rattle.lexeme_theory.specs.Escapes.{Front, front_of, Spells}
 use Rattle.lexeme_theory.specs.Escapes.Spells.{nothing, byte_and}
 
 pub no_front : {text bytes : List ℕ} → 0 < length text → front_of text ≡ None → Spells text bytes → ⊥
@@ -32,33 +32,6 @@ spells_once (byte_and {byte = byte} front more is) other d =
     is ∙ ap (λ l. byte ∷ l) (spells_once more rest.0 rest.1) ∙ sym rest.2
 
 -- the front takes a byte at least
-abbrev IsShorter : ℕ → Option Front → Type 0
-IsShorter size front = MatchOption front (Unit {0}) (λ f. length f.1 < size)
-
-by_cond : (P : Option Front → Type 0) (b : Bool) (one other : Option Front) → P one → P other → P (cond b one other)
-by_cond P true one other first second = first
-by_cond P false one other first second = second
-
-digits_shorter : (size : ℕ) (text : List ℕ) → length text < size → IsShorter size (front_by_digits text)
-digits_shorter size [] h = tt
-digits_shorter size (high ∷ []) h = tt
-digits_shorter size (high ∷ low ∷ rest) h =
-    by_cond (IsShorter size) (is_hex_digit high && is_hex_digit low) (Some (16 * hex_value high + hex_value low, rest)) None (omega arith) tt
-
-with_shorter : (size : ℕ) (byte : Option ℕ) (rest : List ℕ) → length rest < size → IsShorter size (front_with byte rest)
-with_shorter size None rest h = tt
-with_shorter size (Some byte) rest h = h
-
-escape_shorter : (size : ℕ) (text : List ℕ) → length text < size → IsShorter size (front_by_escape text)
-escape_shorter size [] h = tt
-escape_shorter size (byte ∷ rest) h =
-    by_cond (IsShorter size) (byte == 120) (front_by_digits rest) (front_with (escape_of byte) rest) (digits_shorter size rest (omega arith)) (with_shorter size (escape_of byte) rest (omega arith))
-
-front_shorter : (text : List ℕ) → IsShorter (length text) (front_of text)
-front_shorter [] = tt
-front_shorter (byte ∷ rest) =
-    by_cond (IsShorter (length (byte ∷ rest))) (byte == backslash) (front_by_escape rest) (Some (byte, rest)) (escape_shorter (length (byte ∷ rest)) rest (omega arith)) (omega arith)
-
 pub front_is_shorter : (text : List ℕ) (front : Front) → front_of text ≡ Some front → length front.1 < length text
 front_is_shorter text front e = subst (IsShorter (length text)) e (front_shorter text)
 

@@ -1,15 +1,14 @@
 -- The expected tokens below a bound, and one token more.
-use Rattle.std.proofs.Common.{◌≡◌, ◌≢◌, ℕ, ◌+◌, ◌*◌, ◌<◌, ◌≤◌, ⊎_elim, List, [], ◌∷◌, ◌++◌, length, get_or, Contains, refl, Bool, if◌then◌else◌, sym, ap, subst, arith}
+use Rattle.std.proofs.Common.{◌≡◌, ◌≢◌, ℕ, ◌+◌, ◌<◌, ◌≤◌, ⊎_elim, List, [], ◌∷◌, ◌++◌, length, get_or, Contains, refl, sym, subst, arith}
 use Rattle.std.specs.List.Sorted.{IsStrictlyIncreasing}
 use Rattle.std.proofs.Math.Seq.{get_or-append_seam}
-use Rattle.std.proofs.lemmas.Bool.{cases_lt, lt-ltb}
+use Rattle.std.proofs.lemmas.Bool.{cases_lt}
 use Rattle.std.proofs.lemmas.List.{get_or_append_left}
 use Rattle.std.proofs.lemmas.List.{length_push}
 use Rattle.std.proofs.lemmas.List.Elements.{Contains-get_or, Contains-push, Contains-push_cases, Contains-append_left}
 use Rattle.table_data.specs.declared.act.Act.{Act}
 use Rattle.table_data.specs.declared.act.Act.TheVariants.{Shift, Reduce, Accept, Error}
 use Rattle.table_data.specs.Tables.{Tables, act_in}
-use Rattle.lr_machine.specs.Expected.{AreExpectedIn}
 
 -- the tokens below the bound on which the state's action isn't an error, in order
 pub record AreExpectedBelow (t : Tables) (q bound : ℕ) (tokens : List ℕ) : Type 0 where
@@ -20,14 +19,6 @@ pub record AreExpectedBelow (t : Tables) (q bound : ℕ) (tokens : List ℕ) : T
 
 nothing_in : {a : ℕ} → Contains [] a → ⊥
 nothing_in has = omega (arith, has.1)
-
-pub expected_none : (t : Tables) (q : ℕ) → AreExpectedBelow t q 0 []
-expected_none t q = record {
-  rising = λ k less. absurd (omega arith);
-  has = λ a less acts. absurd (omega arith);
-  below = λ a has. absurd (nothing_in has);
-  expected = λ a has. absurd (nothing_in has);
-}
 
 rising_push : (xs : List ℕ) (n : ℕ) → IsStrictlyIncreasing xs → ((a : ℕ) → Contains xs a → a < n) → IsStrictlyIncreasing (xs ++ n ∷ [])
 rising_push xs n rising below k less = ⊎_elim inside seam (cases_lt (k + 1) (length xs))
@@ -72,13 +63,3 @@ module _ (t : Tables) (q bound : ℕ) (tokens : List ℕ) (old : AreExpectedBelo
     below = λ a has. (let less = old.below a has in omega (arith, less));
     expected = old.expected;
   }
-
--- nothing is expected beyond the end mark
-pub expected_all : (t : Tables) (q : ℕ) (tokens : List ℕ) → AreExpectedBelow t q (t.tokens + 1) tokens → AreExpectedIn t q tokens
-expected_all t q tokens all = record {
-  rising = all.rising;
-  exact = λ a. (all.expected a, λ acts. ⊎_elim (λ less. all.has a less acts) (λ past. absurd (acts (errs a past))) (cases_lt a (t.tokens + 1)));
-}
-  where
-    errs : (a : ℕ) → t.tokens + 1 ≤ a → act_in t q a ≡ Error
-    errs a past = ap (λ (c : Bool). if c then Error else get_or t.acts (q * (t.tokens + 1) + a) Error) (lt-ltb t.tokens a (omega arith))

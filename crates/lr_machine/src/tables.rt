@@ -30,9 +30,9 @@ pub struct Tables {
 }
 
 impl Model for Tables {
-    ghost use Rattle.table_data.specs.Tables.{Tables as Parts};
+    ghost use Rattle.table_data.specs.Tables.{Tables as TableParts};
 
-    ghost Value = { Parts };
+    ghost Value = { TableParts };
 
     ghost use Rattle.lr_machine.specs.Parts.{parts_of};
     ghost use Rattle.lr_machine.specs.IsTables.{IsTables};

@@ -217,9 +217,6 @@ root_step store root rule own steps at walks =
     frames_step store (Enter root) (EnterAt root) (here.inner ++ LeaveAt root ∷ []) ((root, own) ∷ []) steps here.same (λ s. is_enter s root)
     (frames_more (subst (λ l. WalksAll store root 0 l here.inner) mine.1 here.all) frames_none refl)
 
-pub root_node : (store : Store) (root : Ref) (steps : List AnyStep) → Walks store root 0 (NodeKid root) steps → (node : Node) × (store root ≡ Some node)
-root_node store root steps walks = let here = at_node walks in ((here.rule, here.kids), here.at)
-
 -- ---- the steps of a walk
 
 pub rule_of : (o : Option Node) (own : List Kid) → option_map (λ (n : Node). n.1) o ≡ Some own → (rule : ℕ) × (o ≡ Some (rule, own))
@@ -245,11 +242,6 @@ in_frames store root frames now steps none same remains =
 
 at_root : (store : Store) (o : Option Ref) (root : Ref) (frames : List Frame) (steps : List Step) → o ≡ Some root → RemainsFrom store o frames (map step_of steps) → (frames ≡ []) × Walks store root 0 (NodeKid root) (map step_of steps)
 at_root store o root frames steps same remains = subst (λ r. RemainsFrom store r frames (map step_of steps)) same remains
-
-pub root_there : (store : Store) (o : Option Ref) (root : Ref) (frames : List Frame) (steps : List Step) → o ≡ Some root → RemainsFrom store o frames (map step_of steps) → IsSome (store root)
-root_there store o root frames steps same remains =
-    let node = root_node store root (map step_of steps) (at_root store o root frames steps same remains).1 in
-    ap is_some node.1
 
 pub takes_root : (store : Store) (o : Option Ref) (root : Ref) (own : List Kid) (frames pushed : List Frame) → o ≡ Some root → option_map (λ (n : Node). n.1) (store root) ≡ Some own → pushed ≡ (root, own) ∷ frames → (steps : List Step) → RemainsFrom store o frames (map step_of steps) → Takes store (Enter root) None pushed steps
 takes_root store o root own frames pushed same kids push steps remains =

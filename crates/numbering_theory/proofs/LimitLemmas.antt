@@ -19,26 +19,12 @@ use Rattle.numbering_theory.specs.Passing.{IsFirstOf, Keeps, one_measure, word_m
 passed_by : (m : Measure) (ms : List Measure) (b : Bool) → nat_lt m.most m.count ≡ b → first_passed (m ∷ ms) ≡ (if b then Some m else first_passed ms)
 passed_by m ms b e = ap (λ x. if x then Some m else first_passed ms) e
 
--- one that is passed, or the others
-first_here : (m : Measure) (ms : List Measure) (n : Measure) (b : Bool) → nat_lt m.most m.count ≡ b → first_passed (m ∷ []) ≡ Some n → first_passed (m ∷ ms) ≡ Some n
-first_here m ms n true e passed = passed_by m ms true e ∙ sym (passed_by m [] true e) ∙ passed
-first_here m ms n false e passed = absurd (none-some n (sym (passed_by m [] false e) ∙ passed))
-
 not_here : (m : Measure) (ms : List Measure) (b : Bool) → nat_lt m.most m.count ≡ b → first_passed (m ∷ []) ≡ None → first_passed (m ∷ ms) ≡ first_passed ms
 not_here m ms true e none = absurd (none-some m (sym none ∙ passed_by m [] true e))
 not_here m ms false e none = passed_by m ms false e
 
 abbrev measure : LimitKind → ℕ → ℕ → Measure
 measure kind count most = record { kind = kind; count = count; most = most }
-
-pub passed_first : (kind : LimitKind) (n count most : ℕ) (ms : List Measure) (fault : SheetFault) → n ≡ count → IsFirstOf (one_measure kind n most) fault → IsFirstOf (measure kind count most ∷ ms) fault
-passed_first kind n count most ms fault same h =
-    let first : IsFirstOf (one_measure kind count most) fault = subst (λ k. IsFirstOf (one_measure kind k most) fault) same h in
-    record {
-      measure = first.measure;
-      passed = first_here (measure kind count most) ms first.measure (nat_lt most count) refl first.passed;
-      is = first.is;
-    }
 
 pub passed_later : {A : Type 0} (kind : LimitKind) (n count most : ℕ) (ms : List Measure) (r : Result A SheetFault) → n ≡ count → first_passed (one_measure kind n most) ≡ None → Keeps ms r → Keeps (measure kind count most ∷ ms) r
 passed_later kind n count most ms (Ok a) same none keeps =
@@ -48,9 +34,6 @@ passed_later kind n count most ms (Err fault) same none keeps = record {
   passed = not_here (measure kind count most) ms (nat_lt most count) refl (subst (λ k. first_passed (one_measure kind k most) ≡ None) same none) ∙ keeps.passed;
   is = keeps.is;
 }
-
-pub passed_alone : {A : Type 0} (kind : LimitKind) (n count most : ℕ) (r : Result A SheetFault) → n ≡ count → Keeps (one_measure kind n most) r → Keeps (one_measure kind count most) r
-passed_alone kind n count most r same keeps = subst (λ k. Keeps (one_measure kind k most) r) same keeps
 
 -- what isn't passed
 pub at_most : (kind : LimitKind) (count most : ℕ) (ms : List Measure) → first_passed (measure kind count most ∷ ms) ≡ None → (b : Bool) → nat_lt most count ≡ b → count ≤ most

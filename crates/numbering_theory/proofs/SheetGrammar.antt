@@ -8,7 +8,7 @@ use Rattle.outline_theory.specs.Words.{token_words, starts}
 use Rattle.outline_theory.specs.Limits.{measures, first_passed}
 use Rattle.outline_theory.specs.Numbering.{IsSheetOf, unnamed_literals, grammar_names, rules_of, start_by}
 use Rattle.numbering_theory.specs.Grammars.{SheetGrammarLaw}
-use Rattle.numbering_theory.specs.KeptSheets.{sheet_with}
+use Rattle.outline_theory.specs.MadeSheets.{sheet_with}
 use Rattle.numbering_theory.proofs.GrammarLemmas.{count_tokens, grammar_is}
 use Rattle.numbering_theory.proofs.SheetLemmas.{sheet_measures}
 

@@ -23,12 +23,13 @@ use Rattle.outline_data.specs.AlternativeParts.{AlternativeParts}
 use Rattle.outline_data.specs.GroupParts.{GroupParts}
 use Rattle.outline_theory.specs.LineFaults.{line_feed, empty_literal, empty_pattern}
 use Rattle.outline_theory.specs.Reading.{IsFaultless}
-use Rattle.outline_theory.specs.Words.{texts, literal_in, literal_words, pattern_in, side_literals, all_literals, token_words, starts}
+use Rattle.outline_theory.specs.Words.{texts, literal_in, literal_words, pattern_in, side_literals, all_literals, token_words}
 use Rattle.outline_theory.specs.Limits.{Measure, measures, first_passed, skips_in, positions_in, long_side}
-use Rattle.outline_theory.specs.Numbering.{AreDecls, no_decl, literal_first, matched_first, skip_first, start_first, token_literals, unnamed_literals, grammar_names, is_one_of, index_of, distinct, WordLists, lists_of, symbol_by, rule_by, rules_by, rules_of, start_by}
+use Rattle.outline_theory.specs.Numbering.{AreDecls, no_decl, literal_first, matched_first, skip_first, start_first, token_literals, unnamed_literals, grammar_names, is_one_of, index_of, distinct, WordLists, lists_of, symbol_by, rule_by, rules_by, rules_of}
 use Rattle.numbering_theory.specs.KnownWords.{unnamed_in}
 use Rattle.numbering_theory.specs.Passing.{all_measures, IsFirstFaultOf}
-use Rattle.numbering_theory.specs.KeptSheets.{sheet_with, KeepsLimits, IsLimitFault, IsLiteralText, IsOrdinaryDecl, AreShort, IsOrdinary}
+use Rattle.outline_theory.specs.MadeSheets.{sheet_with}
+use Rattle.numbering_theory.specs.KeptSheets.{KeepsLimits, IsLimitFault, IsLiteralText, IsOrdinaryDecl, AreShort, IsOrdinary}
 use Rattle.numbering_theory.proofs.LimitLemmas.{none_over, short_first}
 use Rattle.numbering_theory.proofs.MemberLemmas.{all_from, contains_flat, contains_map}
 use Rattle.numbering_theory.proofs.GrammarLemmas.{count_tokens, unnamed_behind}

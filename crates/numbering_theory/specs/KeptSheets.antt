@@ -1,6 +1,6 @@
 -- The sheet that an outline says where some declarations are kept: its limits, and what they leave of it.
-use Rattle.std.specs.Prelude.{◌≡◌, ◌≢◌, ℕ, ◌+◌, ◌≤◌, List, [], length, map, sum_by, All, Contains, Some, None}
-use Rattle.lr_base.specs.declared.limits.TheConstants.{SIDE_SYMBOLS, TOKENS}
+use Rattle.std.specs.Prelude.{◌≡◌, ◌≢◌, ℕ, ◌+◌, ◌≤◌, List, [], length, sum_by, All, Contains, Some, None}
+use Rattle.lr_base.specs.declared.limits.TheConstants.{SIDE_SYMBOLS, SKIPS, TOKENS}
 use Rattle.outline_data.specs.declared.fault.SheetFault.{SheetFault}
 use Rattle.outline_data.specs.declared.fault.SheetFault.TheVariants.{BadByte, Syntax, BadPattern, PatternMatchesEmpty, Redeclared, UnknownSymbol, NoRules, PlaceOutOfRange, PlaceTwice, NotAToken, Limit, NoMemory}
 use Rattle.outline_data.specs.Parts.{OutlineParts}
@@ -11,25 +11,9 @@ use Rattle.sheet_data.specs.declared.parts.Decl.{Decl}
 use Rattle.sheet_data.specs.declared.parts.Decl.TheVariants.{Literal, Matched, Skip}
 use Rattle.outline_data.specs.AlternativeParts.{AlternativeParts}
 use Rattle.outline_data.specs.GroupParts.{GroupParts}
-use Rattle.outline_theory.specs.Words.{token_words, starts, alternatives_of}
+use Rattle.outline_theory.specs.Words.{token_words}
+use Rattle.outline_theory.specs.Numbering.{unnamed_literals}
 use Rattle.outline_theory.specs.Limits.{Measure, measures, first_passed, skips_in, positions_in}
-use Rattle.outline_theory.specs.Numbering.{unnamed_literals, grammar_names, rules_of, start_by, template_of, declares_of}
-
--- the sheet of an outline of which these declarations are kept
-abbrev pub sheet_with : OutlineParts → List Decl → Sheet
-sheet_with o decls = record {
-  decls = decls;
-  literals = unnamed_literals o;
-  names = grammar_names o;
-  grammar = record {
-    tokens = length (token_words o) + length (unnamed_literals o);
-    names = length (grammar_names o);
-    rules = rules_of o;
-    start = start_by (grammar_names o) (starts o);
-  };
-  templates = map template_of (alternatives_of o);
-  declares = map declares_of (alternatives_of o);
-}
 
 -- no limit is passed by the sheet
 abbrev pub KeepsLimits : Sheet → Type 0
@@ -73,7 +57,7 @@ AreShort g = All (λ (a : AlternativeParts). length a.right ≤ SIDE_SYMBOLS) g.
 -- what the limits and the want of faults leave of literals, patterns and right sides
 pub record IsOrdinary (o : OutlineParts) (decls : List Decl) : Type 0 where
   pub tokens : length (token_words o) + length (unnamed_literals o) ≤ TOKENS
-  pub skips : sum_by skips_in decls ≤ 50
+  pub skips : sum_by skips_in decls ≤ SKIPS
   pub positions : sum_by positions_in decls + sum_by length (unnamed_literals o) ≤ POSITIONS
   pub kept : All IsOrdinaryDecl decls
   pub literals : All IsLiteralText (unnamed_literals o)

@@ -1,11 +1,10 @@
 -- How the faults of a kind grow with the list that they stand in.
-use Rattle.std.proofs.Common.{◌≡◌, ℕ, zero, suc, ◌+◌, ◌<◌, ◌≤◌, Bool, true, false, IsTrue, List, [], ◌∷◌, ◌++◌, length, take, get_or, refl, sym, ap, subst, ◌∙◌, inl, inr, arith}
+use Rattle.std.proofs.Common.{◌≡◌, ℕ, zero, suc, ◌+◌, ◌<◌, Bool, true, false, IsTrue, List, [], ◌∷◌, ◌++◌, length, take, get_or, refl, sym, ap, subst, ◌∙◌, inl, inr, arith}
 use Rattle.std.specs.Prelude.{◌⊎◌, ◌↔◌, not, Option, Some, Result, Ok, Err, OnOk, slice_get, Contains}
 use Rattle.std.specs.List.{flat_map}
 use Rattle.std.proofs.lemmas.Bool.{false≢true}
-use Rattle.std.proofs.lemmas.List.{take_all, map-append}
+use Rattle.std.proofs.lemmas.List.{map-append}
 use Rattle.std.proofs.lemmas.List.Elements.{Contains-append_left, Contains-append_right, Contains-append_cases, Contains-push, Contains-push_cases}
-use Rattle.std.proofs.lemmas.Option.{none-some}
 use Rattle.pattern_data.specs.declared.pattern.Pattern.{Pattern}
 use Rattle.pattern_data.specs.Language.{Matches}
 use Rattle.pattern_data.specs.Spellings.{IsSpelling}
@@ -18,17 +17,14 @@ use Rattle.outline_data.specs.GroupParts.{GroupParts}
 use Rattle.outline_data.specs.declared.rules.TemplatePart.{TemplatePart}
 use Rattle.outline_data.specs.declared.fault.SheetFault.{SheetFault}
 use Rattle.outline_data.specs.declared.fault.SheetFault.TheVariants.{BadPattern, PatternMatchesEmpty, Redeclared, UnknownSymbol, PlaceOutOfRange, PlaceTwice, NotAToken}
-use Rattle.outline_theory.specs.Words.{StartUse, texts, places, use_in, number_in, parts_of}
+use Rattle.outline_theory.specs.Words.{StartUse, texts, places, number_in, parts_of}
 use Rattle.outline_checks.specs.declared.names.Names.{Names}
 use Rattle.outline_checks.specs.Noted.{Noted}
 use Rattle.outline_checks.specs.Kinds.{is_token_name, is_left_side, InSome, LiteralFault, line_feed, empty, RepeatFault, again, NamedLiteralFault, named_again, named_text, PatternTextFault, no_spelling, empty_pattern, StartFault, second_start, unknown_start, NameFault, unknown_name, SymbolFault, PlaceFault, out_of_range, twice, IsGrammarName, NoTokenFault, not_a_token, AlternativeFault, in_right, in_template, in_marks, at_name, GroupFault, left_is_token, in_alternative, TemplateFault}
 use Rattle.outline_checks.proofs.NotedLemmas.{noted_none, noted_both, noted_as}
-use Rattle.outline_checks.proofs.ListLemmas.{no_element, get-append_left, get_pushed, get_push_cases, IsAgain, again_before, again_here, again_cases, next_taken}
+use Rattle.outline_checks.proofs.ListLemmas.{get-append_left, get_pushed, get_push_cases, IsAgain, again_before, again_here, again_cases, next_taken}
 
 -- ---- a fault of some element
-
-pub in_some_none : {X : Type 0} (Of : X → SheetFault → Type 0) (a : Option SheetFault) → Noted a a (InSome Of [])
-in_some_none Of a = noted_none a (InSome Of []) (λ f h. no_element h.element h.stands)
 
 in_some_cases : {X : Type 0} (Of : X → SheetFault → Type 0) (xs : List X) (x : X) (f : SheetFault) → InSome Of (xs ++ x ∷ []) f → InSome Of xs f ⊎ Of x f
 in_some_cases Of xs x f h = elim (Contains-push_cases xs x h.element h.stands) [
@@ -47,9 +43,6 @@ in_some_push Of xs x h k =
 pub in_some_next : {X : Type 0} (Of : X → SheetFault → Type 0) (xs : List X) (i : ℕ) (x : X) {a b c : Option SheetFault} → i < length xs → x ≡ get_or xs i x → Noted a b (InSome Of (take i xs)) → Noted b c (Of x) → Noted a c (InSome Of (take (i + 1) xs))
 in_some_next Of xs i x {a} {b} {c} within read h k =
     subst (λ ys. Noted a c (InSome Of ys)) (sym (next_taken xs i x within read)) (in_some_push Of (take i xs) x h k)
-
-pub in_some_all : {X : Type 0} (Of : X → SheetFault → Type 0) (xs : List X) (i : ℕ) {a b : Option SheetFault} → length xs ≤ i → Noted a b (InSome Of (take i xs)) → Noted a b (InSome Of xs)
-in_some_all Of xs i {a} {b} past h = subst (λ ys. Noted a b (InSome Of ys)) (take_all i xs past) h
 
 -- ---- one fault
 
@@ -93,12 +86,6 @@ texts_push words word = map-append (λ (w : Word). w.bytes) words (word ∷ [])
 pub places_of_push : (uses : List PlaceUse) (used : PlaceUse) → places (uses ++ used ∷ []) ≡ places uses ++ used.place ∷ []
 places_of_push uses used = map-append (λ (u : PlaceUse). u.place) uses (used ∷ [])
 
-pub repeat_none : (a : Option SheetFault) → Noted a a (RepeatFault [])
-repeat_none a = noted_none a (RepeatFault []) none
-  where
-    none : (f : SheetFault) → RepeatFault [] f → ⊥
-    none _ (again {word = w} h) = none-some w h.here
-
 pub repeat_push : (words : List Word) (word : Word) (was : Bool) {a b c : Option SheetFault} → (was ≡ true) ↔ Contains (texts words) word.bytes → Noted a b (RepeatFault words) → Noted b c (λ f. (was ≡ true) × (f ≡ Redeclared word.line)) → Noted a c (RepeatFault (words ++ word ∷ []))
 repeat_push words word was same h k = noted_as (RepeatFault (words ++ word ∷ [])) (noted_both h k) to back
   where
@@ -108,16 +95,6 @@ repeat_push words word was same h k = noted_as (RepeatFault (words ++ word ∷ [
 
     back : (f : SheetFault) → RepeatFault (words ++ word ∷ []) f → RepeatFault words f ⊎ ((was ≡ true) × (f ≡ Redeclared word.line))
     back f p = elim (repeat_cases words word f p) [ inl before ↦ inl before | inr last ↦ inr (same.1 last.0, last.1) ]
-
-pub named_none : (a : Option SheetFault) → Noted a a (NamedLiteralFault [])
-named_none a = noted_none a (NamedLiteralFault []) none
-  where
-    none : (f : SheetFault) → NamedLiteralFault [] f → ⊥
-    none f (named_again h) = no_repeat f h
-      where
-        no_repeat : (f : SheetFault) → RepeatFault [] f → ⊥
-        no_repeat _ (again {word = w} h) = none-some w h.here
-    none f (named_text h) = no_element h.element h.stands
 
 pub named_push : (words : List Word) (word : Word) (was : Bool) {a b c d : Option SheetFault} → (was ≡ true) ↔ Contains (texts words) word.bytes → Noted a b (NamedLiteralFault words) → Noted b c (λ f. (was ≡ true) × (f ≡ Redeclared word.line)) → Noted c d (LiteralFault word) → Noted a d (NamedLiteralFault (words ++ word ∷ []))
 named_push words word was same h k l =
@@ -174,13 +151,6 @@ pub not_true_iff : (b t : Bool) → b ≡ t → (not b ≡ true) ↔ (t ≡ fals
 not_true_iff true t e = (λ h. absurd (false≢true h), λ h. absurd (false≢true (sym h ∙ sym e)))
 not_true_iff false t e = (λ _. sym e, λ _. refl)
 
-pub starts_none : (names : Names) (a : Option SheetFault) → Noted a a (StartFault names [])
-starts_none names a = noted_none a (StartFault names []) none
-  where
-    none : (f : SheetFault) → StartFault names [] f → ⊥
-    none _ (second_start before {start = s} h) = none-some s h
-    none _ (unknown_start {start = s} h e) = no_element s h
-
 pub starts_push : (names : Names) (starts : List StartUse) (start : StartUse) (has unknown : Bool) {a b c d : Option SheetFault} → (has ≡ true) ↔ (0 < length starts) → (unknown ≡ true) ↔ (is_left_side names start.name.bytes ≡ false) → Noted a b (StartFault names starts) → Noted b c (λ f. IsTrue has × (f ≡ Redeclared start.line)) → Noted c d (λ f. IsTrue unknown × (f ≡ UnknownSymbol start.name.line)) → Noted a d (StartFault names (starts ++ start ∷ []))
 starts_push names starts start has unknown some none h k l =
     noted_as (StartFault names (starts ++ start ∷ [])) (noted_both (noted_both h k) l) to back
@@ -220,13 +190,6 @@ place_before size uses used _ (out_of_range {used = u} h range) = out_of_range (
 place_before size uses used _ (twice {used = u} h) =
     let r : IsAgain (λ (v : PlaceUse). v.place) (uses ++ used ∷ []) u = again_before (λ (v : PlaceUse). v.place) uses used u (h.at, (h.here, h.before)) in
     twice (record { at = r.0; here = r.1.0; before = r.1.1 })
-
-pub places_none : (size : ℕ) (a : Option SheetFault) → Noted a a (PlaceFault size [])
-places_none size a = noted_none a (PlaceFault size []) none
-  where
-    none : (f : SheetFault) → PlaceFault size [] f → ⊥
-    none _ (out_of_range {used = u} h range) = no_element u h
-    none _ (twice {used = u} h) = none-some u h.here
 
 pub places_push : (size : ℕ) (uses : List PlaceUse) (used : PlaceUse) (is_out was : Bool) {a b c d : Option SheetFault} → (is_out ≡ true) ↔ ((used.place ≡ 0) ⊎ (size < used.place)) → (was ≡ true) ↔ Contains (places uses) used.place → Noted a b (PlaceFault size uses) → Noted b c (λ f. IsTrue is_out × (f ≡ PlaceOutOfRange used.line)) → Noted c d (λ f. IsTrue was × (f ≡ PlaceTwice used.line)) → Noted a d (PlaceFault size (uses ++ used ∷ []))
 places_push size uses used is_out was out same h k l =
@@ -275,10 +238,6 @@ group_noted names g is alternatives {a} {b} {c} same e h k =
 pub on_ok_then : {T E P Q : Type 0} (r : Result T E) → (P → Q) → OnOk r P → OnOk r Q
 on_ok_then (Ok v) f h = f h
 on_ok_then (Err e) f h = tt
-
-pub template_noted : (names : Names) (right : List Symbol) (parts : List TemplatePart) (uses numbers : List PlaceUse) {a b c : Option SheetFault} → uses ≡ flat_map use_in parts → numbers ≡ flat_map number_in parts → Noted a b (PlaceFault (length right) uses) → Noted b c (InSome (NoTokenFault names right) numbers) → Noted a c (TemplateFault names right parts)
-template_noted names right parts uses numbers {a} {b} {c} e k h l =
-    noted_both (subst (λ us. Noted a b (PlaceFault (length right) us)) e h) (subst (λ us. Noted b c (InSome (NoTokenFault names right) us)) k l)
 
 in_some_joined : {X : Type 0} (Of : X → SheetFault → Type 0) (xs ys : List X) (f : SheetFault) → InSome Of xs f ⊎ InSome Of ys f → InSome Of (xs ++ ys) f
 in_some_joined Of xs ys f (inl h) = record { element = h.element; stands = Contains-append_left xs ys h.element h.stands; has = h.has }

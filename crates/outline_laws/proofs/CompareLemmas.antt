@@ -6,6 +6,7 @@ use Rattle.lexeme_theory.specs.Stands.{IsBlank, IsLexeme}
 use Rattle.lexeme_theory.specs.Reading.{Placed, placed_in, AreLexemes}
 use Rattle.lexeme_theory.specs.Reading.AreLexemes.{no_lexeme, blank_first, lexeme_first}
 use Rattle.lexeme_theory.proofs.FoundLemmas.{found_once}
+use Rattle.lexeme_theory.proofs.ReadingLemmas.{same_blank, same_lexeme, no_blank_lexeme}
 
 -- the reading of the others up to `to` goes on from that of the lexemes up to `at`
 pub record GoesOn (bytes : List ℕ) (lexemes : List Placed) (at : ℕ) (others : List Placed) (to : ℕ) : Type 0 where
@@ -15,15 +16,6 @@ pub record GoesOn (bytes : List ℕ) (lexemes : List Placed) (at : ℕ) (others 
 
 abbrev pub Compared : List ℕ → List Placed → ℕ → List Placed → ℕ → Type 0
 Compared bytes lexemes at others to = GoesOn bytes lexemes at others to ⊎ GoesOn bytes others to lexemes at
-
-same_blank : (n m : ℕ) → blank_found n ≡ blank_found m → n ≡ m
-same_blank n m e = cc
-
-same_lexeme : (l k : Lexeme) (n m : ℕ) → lexeme_found l n ≡ lexeme_found k m → (l ≡ k) × (n ≡ m)
-same_lexeme l k n m e = (cc, cc)
-
-no_blank_lexeme : (n m : ℕ) (l : Lexeme) → blank_found n ≡ lexeme_found l m → ⊥
-no_blank_lexeme n m l e = cc
 
 consed : (bytes : List ℕ) (p q : Placed) (rest others all ys : List Placed) (to upto : ℕ) → q ≡ p → all ≡ p ∷ rest → ys ≡ q ∷ others → Compared bytes rest to others upto → Compared bytes all to ys upto
 consed bytes p q rest others all ys to upto same all_is ys_is (inl g) = inl (record {

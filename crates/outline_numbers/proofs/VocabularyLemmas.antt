@@ -1,18 +1,14 @@
 -- What a look-up gives, and what a new word leaves of a vocabulary.
-use Rattle.std.proofs.Common.{◌≡◌, ℕ, zero, suc, List, [], ◌∷◌, ◌++◌, length, map, Bool, true, false, refl, sym, ap, subst, ◌∙◌, arith, Bor}
-use Rattle.std.specs.Prelude.{Option, Some, None, slice_get, if◌then◌else◌, is_some, not}
+use Rattle.std.proofs.Common.{◌≡◌, ℕ, List, [], ◌∷◌, ◌++◌, length, map, Bool, true, false, refl, sym, ap, subst, ◌∙◌, Bor}
+use Rattle.std.specs.Prelude.{Option, Some, None, is_some, not}
 use Rattle.std.specs.Option.{option_copied}
 use Rattle.std.proofs.lemmas.List.{map-append, length-map}
 use Rattle.std.specs.Str.{bytes_eq}
 use Rattle.std.specs.Map.{update}
 use Rattle.std.proofs.lemmas.Bool.{false≢true}
-use Rattle.std.proofs.lemmas.Slice.Eq.{bytes_eq-Decides}
-use Rattle.std.proofs.lemmas.Option.{none-some, same_Some, slice_get_within}
-use Rattle.outline_theory.specs.Numbering.{is_one_of, index_of}
 use Rattle.outline_numbers.specs.declared.vocabulary.Vocabulary.{Vocabulary}
 use Rattle.outline_numbers.specs.Vocabularies.{words_of, place_in, IsVocabulary}
-use Rattle.numbering_theory.specs.Places.{first_place, with_word, IsFound}
-use Rattle.numbering_theory.proofs.PlaceLemmas.{GivesPlaces, one_of_by, index_by, place_by, none_of, one_of_place, places_kept, places_push}
+use Rattle.numbering_theory.proofs.PlaceLemmas.{GivesPlaces, none_of, one_of_place, places_kept, places_push}
 
 -- an option that is none, or some
 pub absent : (o : Option (Bor ℕ)) (b : Bool) → is_some o ≡ not b → b ≡ true → option_copied o ≡ None

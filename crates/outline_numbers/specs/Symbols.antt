@@ -1,5 +1,5 @@
 -- The numbers of symbols, by the words that have numbers.
-use Rattle.std.specs.Prelude.{ℕ, ◌≤◌, length}
+use Rattle.std.specs.Prelude.{◌≤◌, length}
 use Rattle.lr_base.specs.declared.limits.TheConstants.{TOKENS, NAMES}
 use Rattle.outline_theory.specs.Numbering.{WordLists}
 use Rattle.outline_numbers.specs.declared.numbers.Numbers.{Numbers}

@@ -10,7 +10,8 @@ ghost use Rattle.outline_numbers.specs.Symbols.{AreNumbers, AreVocabularies, lis
 ghost use Rattle.numbering_theory.specs.KnownWords.{IsKnownGroup, unnamed_in};
 ghost use Rattle.numbering_theory.specs.Passing.{IsFirstFaultOf, all_measures};
 ghost use Rattle.outline_numbers.specs.Numbered.{IsNumbered};
-ghost use Rattle.numbering_theory.specs.KeptSheets.{sheet_with, KeepsLimits, IsLimitFault, IsOrdinary};
+ghost use Rattle.outline_theory.specs.MadeSheets.{sheet_with};
+ghost use Rattle.numbering_theory.specs.KeptSheets.{KeepsLimits, IsLimitFault, IsOrdinary};
 
 use crate::copies::copy_words;
 use crate::limits::{check_positions, check_rules, check_words};

@@ -4,6 +4,7 @@ pub mod Words
 pub mod Keys
 pub mod LineFaults
 pub mod Numbering
+pub mod MadeSheets
 pub mod Limits
 pub mod Reading
 pub mod Layout

@@ -13,7 +13,7 @@ use Rattle.outline_data.specs.declared.outline.PlaceUse.{PlaceUse}
 use Rattle.outline_data.specs.declared.outline.Declaration.{Declaration}
 use Rattle.outline_data.specs.declared.outline.Declaration.TheVariants.{Literal as literal_declared, Matched as matched_declared, Skip as skip_declared, Start as start_declared}
 use Rattle.outline_data.specs.declared.rules.Symbol.{Symbol}
-use Rattle.outline_data.specs.declared.rules.Symbol.TheVariants.{Name as name_symbol, Quoted as quoted_symbol}
+use Rattle.outline_data.specs.declared.rules.Symbol.TheVariants.{Name as word_symbol, Quoted as quoted_symbol}
 use Rattle.outline_data.specs.declared.rules.TemplatePart.{TemplatePart}
 use Rattle.outline_data.specs.declared.rules.TemplatePart.TheVariants.{Text as text_part, Fold as fold_part, Number as number_part}
 use Rattle.outline_data.specs.AlternativeParts.{AlternativeParts}
@@ -67,7 +67,7 @@ spelled_declaration (skip_declared pattern) = bare (directive_lexeme Skip) ∷ m
 spelled_declaration (start_declared line name) = (directive_lexeme Start, line) ∷ named name ∷ []
 
 abbrev pub spelled_symbol : Symbol → Kept
-spelled_symbol (name_symbol word) = named word
+spelled_symbol (word_symbol word) = named word
 spelled_symbol (quoted_symbol word) = quoted word
 
 abbrev pub spelled_part : TemplatePart → Kept

@@ -78,9 +78,6 @@ IsRight p = has_empty p ≡ true → Matches p []
 abbrev Right : Type 0
 Right = (p : Pattern) × IsRight p
 
-the_pattern : Right → Pattern
-the_pattern right = right.0
-
 rights_in_order : (members : List Right) → list_all (λ b. b) (map has_empty (map (λ (r : Right). r.0) members)) ≡ true → MatchesInOrder (map (λ (r : Right). r.0) members) []
 rights_in_order [] e = no_member refl
 rights_in_order (first ∷ others) e =

@@ -1,4 +1,5 @@
 pub mod ByteLemmas
+pub mod EscapeLemmas
 pub mod SetLemmas
 pub mod MemberLemmas
 pub mod SignLemmas

@@ -8,7 +8,7 @@ use Rattle.pattern_data.specs.declared.pattern.Pattern.{Pattern, Pattern-F, out-
 use Rattle.pattern_data.specs.declared.pattern.Pattern.TheOpen.Pattern-F.{Set, Seq, Alt, Star, Plus, Opt}
 use Rattle.pattern_data.specs.declared.pattern.Pattern.TheVariants.{Set as set_pattern, Seq as seq_pattern, Alt as alt_pattern, Star as star_pattern, Plus as plus_pattern, Opt as opt_pattern, outs-Set, outs-Seq, outs-Alt, outs-Star, outs-Plus, outs-Opt}
 use Rattle.pattern_data.specs.declared.signs.Sign.{Sign}
-use Rattle.pattern_data.specs.declared.signs.Sign.TheVariants.{Set as set_sign, Open, Close, Bar}
+use Rattle.pattern_data.specs.declared.signs.Sign.TheVariants.{Set as set_sign, Bar}
 use Rattle.pattern_data.specs.declared.signs.Repetition.TheVariants.{Star as star, Plus as plus, Opt as opt}
 use Rattle.pattern_data.specs.Printing.{Written, written_step, written, in_choice, in_a_sequence, in_repetition, with_bars, sign_text, signs_text, normal_spelling}
 use Rattle.pattern_data.specs.Texts.{set_text}
@@ -63,9 +63,6 @@ text-bars (first ∷ others) =
 pub text-alternatives : (first : Pattern) (others : List Pattern) → signs_text (with_bars (map written (first ∷ others))) ≡ choice_text first ++ flat_map bar_text others
 text-alternatives first others =
     text-append (in_choice (written first)) (flat_map (λ (w : Written). Bar ∷ in_choice w) (map written others)) ∙ ap (λ l. choice_text first ++ l) (text-bars others)
-
-pub text-brackets : (signs : List Sign) → signs_text (Open ∷ (signs ++ Close ∷ [])) ≡ 40 ∷ (signs_text signs ++ 41 ∷ [])
-text-brackets signs = ap (λ l. 40 ∷ l) (text-append signs (Close ∷ []))
 
 pub text-set : (words : List ℕ) → signs_text (set_sign words ∷ []) ≡ sign_text (set_sign words)
 text-set words = append-nil (sign_text (set_sign words))

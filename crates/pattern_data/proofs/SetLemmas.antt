@@ -15,9 +15,6 @@ unfolding has_bit
 has_bit-at words byte place k p e = ap (λ i. bit_at (get_or words i 0) (byte % 64) == 1) p ∙ ap (λ j. bit_at (get_or words place 0) j == 1) e
 
 -- ---- one byte more
-with_bit : ℕ → ℕ → ℕ
-with_bit word k = bit_or word (1 * 2 ^ k % 2 ^ 64)
-
 inserted_here : (words : List ℕ) (byte other : ℕ) → length words ≡ 4 → byte < 256 → other / 64 ≡ byte / 64 → has_bit (set words (byte / 64) (bit_or (get_or words (byte / 64) 0) (1 * 2 ^ (byte % 64) % 2 ^ 64))) other ≡ ((other == byte) || has_bit words other)
 inserted_here words byte other four below place =
     let word : ℕ = get_or words (byte / 64) 0 in

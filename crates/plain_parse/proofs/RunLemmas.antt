@@ -144,9 +144,6 @@ module _ {t : Tables} {tokens : List TextToken} {index : ℕ} {run : Run} (at : 
       let place : length run.states.items - 1 ≡ length at.stack = omega (arith, one, count) in
       ap (λ k. get_or run.states.items k 0) place ∙ ap (λ l. get_or l (length at.stack) 0) at.states ∙ state_on_top at.stack
 
-  pub within_states : IsLawful t → top_of run < t.states
-  within_states lawful = subst (λ q. q < t.states) (sym top_is) (lawful.1.within at.stack at.is_stack)
-
 pub started : (t : Tables) (tokens : List TextToken) (run : Run) → IsStart run → IsRun t tokens 0 run
 started t tokens run start = record {
   stack = [];

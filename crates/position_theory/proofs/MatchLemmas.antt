@@ -54,9 +54,6 @@ mutual
   one_some (reaches_later reach) none = one_some reach none
 
 -- ---- repetitions
-repeats_moved : {p : Pattern} {u v : List ℕ} → u ≡ v → Repeats p u → Repeats p v
-repeats_moved {p = p} same strings = let P : List ℕ → Type 0 = λ w. Repeats p w in subst P same strings
-
 pub repeats_push : {p : Pattern} {u v w : List ℕ} → Repeats p u → Matches p v → w ≡ u ++ v → Repeats p w
 repeats_push {v = v} {w = w} (no_more none) string is = one_more {u = v} {v = []} string (no_more refl) (join_after_empty is none ∙ sym (append-nil v))
 repeats_push {v = v} {w = w} (one_more {u = a} {v = b} first rest parts) string is =

@@ -1,8 +1,8 @@
 -- A pattern has no more positions than each of its spellings has bytes: each position is a set of the spelling, and each
 -- set takes a byte of it at least.
-use Rattle.std.proofs.Common.{◌≡◌, ℕ, ◌+◌, ◌*◌, ◌<◌, ◌≤◌, Bool, true, false, cond, List, [], ◌∷◌, ◌++◌, length, sym, ap, ◌∙◌, subst, arith}
-use Rattle.std.specs.Prelude.{◌==◌, ◌&&◌, not, nat_le, Option, None, Some, MatchOption}
-use Rattle.pattern_data.specs.Escapes.{Front, backslash, is_hex_digit, hex_value, escape_of, front_by_digits, front_with, front_by_escape, front_of}
+use Rattle.std.proofs.Common.{◌≡◌, ℕ, ◌+◌, ◌<◌, ◌≤◌, Bool, true, false, cond, List, [], ◌∷◌, ◌++◌, length, sym, ap, ◌∙◌, subst, arith}
+use Rattle.std.specs.Prelude.{◌==◌, ◌&&◌, not, nat_le, Option, None, Some}
+use Rattle.pattern_data.specs.Escapes.{Front, front_of}
 use Rattle.pattern_data.specs.Classes.{without_feed, written_byte, class_byte, Member, range_to, member_from, member_by, member_of, members_text, AreMembers}
 use Rattle.pattern_data.specs.Classes.AreMembers.{last_member, one_more}
 use Rattle.pattern_data.specs.declared.pattern.Pattern.{Pattern}
@@ -21,6 +21,7 @@ use Rattle.pattern_data.specs.Spellings.AreAlternatives.{one_alternative, altern
 use Rattle.pattern_data.specs.Spellings.AreInSequence.{one_in_sequence, in_sequence_more}
 use Rattle.pattern_data.specs.Spellings.IsRepetition.{atom_alone, atom_repeated}
 use Rattle.pattern_data.specs.Spellings.IsAtom.{set_atom, in_brackets}
+use Rattle.pattern_data.proofs.EscapeLemmas.{IsShorter, by_cond, front_shorter}
 use Rattle.position_theory.specs.Positions.{count_all, IsSet}
 use Rattle.position_theory.specs.Positions.IsLoop.{star_loop, plus_loop}
 use Rattle.position_theory.specs.Positions.HasMembers.{sequence_members, choice_members}
@@ -28,36 +29,9 @@ use Rattle.position_theory.specs.Positions.HasInner.{loop_inner, option_inner}
 use Rattle.position_theory.proofs.LayerLemmas.{count_set, count_members, count_inner}
 
 -- ---- what is left behind a front is shorter
-abbrev IsShorter : {A : Type 0} → ℕ → Option (A × List ℕ) → Type 0
-IsShorter {A} size front = MatchOption front (Unit {0}) (λ (f : A × List ℕ). length f.1 < size)
-
-by_cond : {A : Type 0} (P : Option A → Type 0) (b : Bool) (one other : Option A) → P one → P other → P (cond b one other)
-by_cond P true one other first second = first
-by_cond P false one other first second = second
-
 longer : {A : Type 0} (size more : ℕ) (front : Option (A × List ℕ)) → size ≤ more → IsShorter size front → IsShorter more front
 longer size more None order h = tt
 longer size more (Some front) order h = omega (arith, order, h)
-
-digits_shorter : (size : ℕ) (text : List ℕ) → length text < size → IsShorter size (front_by_digits text)
-digits_shorter size [] h = tt
-digits_shorter size (high ∷ []) h = tt
-digits_shorter size (high ∷ low ∷ rest) h =
-    by_cond (IsShorter size) (is_hex_digit high && is_hex_digit low) (Some (16 * hex_value high + hex_value low, rest)) None (omega arith) tt
-
-with_shorter : (size : ℕ) (byte : Option ℕ) (rest : List ℕ) → length rest < size → IsShorter size (front_with byte rest)
-with_shorter size None rest h = tt
-with_shorter size (Some byte) rest h = h
-
-escape_shorter : (size : ℕ) (text : List ℕ) → length text < size → IsShorter size (front_by_escape text)
-escape_shorter size [] h = tt
-escape_shorter size (byte ∷ rest) h =
-    by_cond (IsShorter size) (byte == 120) (front_by_digits rest) (front_with (escape_of byte) rest) (digits_shorter size rest (omega arith)) (with_shorter size (escape_of byte) rest (omega arith))
-
-front_shorter : (text : List ℕ) → IsShorter (length text) (front_of text)
-front_shorter [] = tt
-front_shorter (byte ∷ rest) =
-    by_cond (IsShorter (length (byte ∷ rest))) (byte == backslash) (front_by_escape rest) (Some (byte, rest)) (escape_shorter (length (byte ∷ rest)) rest (omega arith)) (omega arith)
 
 without_shorter : (size : ℕ) (front : Option Front) → IsShorter size front → IsShorter size (without_feed front)
 without_shorter size None h = tt

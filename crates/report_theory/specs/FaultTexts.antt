@@ -6,7 +6,7 @@ use Rattle.outline_data.specs.declared.fault.LimitKind.TheVariants.{SheetBytes, 
 use Rattle.outline_data.specs.declared.fault.SheetFault.{SheetFault}
 use Rattle.outline_data.specs.declared.fault.SheetFault.TheVariants.{BadByte, Syntax, BadPattern, PatternMatchesEmpty, Redeclared, UnknownSymbol, NoRules, PlaceOutOfRange, PlaceTwice, NotAToken, Limit, NoMemory}
 use Rattle.grammar_faults.specs.declared.fault.GrammarFault.{GrammarFault}
-use Rattle.grammar_faults.specs.declared.fault.GrammarFault.TheVariants.{Unproductive, Unreachable, EmptyTooLarge, TooManyStates, Conflict, NoMemory as spent}
+use Rattle.grammar_faults.specs.declared.fault.GrammarFault.TheVariants.{Unproductive, Unreachable, EmptyTooLarge, TooManyStates, Conflict, NoMemory as no_memory}
 use Rattle.report_theory.specs.ItemTexts.{conflict_text}
 
 -- a fault on a line: its number, the line, and what it is
@@ -58,4 +58,4 @@ grammar_text sheet (Unreachable n) = name_said 13 (codes ": unreachable: ") (nam
 grammar_text sheet (EmptyTooLarge n) = name_said 14 (codes ": empty tree too large: ") (name_in sheet n)
 grammar_text sheet TooManyStates = many_states_text
 grammar_text sheet (Conflict conflict) = conflict_text sheet conflict
-grammar_text sheet spent = []
+grammar_text sheet no_memory = []

@@ -2,11 +2,11 @@
 use Rattle.std.proofs.Common.{◌≡◌, ◌≢◌, ℕ, zero, suc, ◌+◌, ◌<◌, List, [], ◌∷◌, length, get_or, Bool, true, false, refl, sym, ap, subst, ◌∙◌, arith}
 use Rattle.std.specs.Prelude.{◌↔◌, filter, if◌then◌else◌, Contains}
 use Rattle.std.specs.List.{range_with_len}
-use Rattle.std.specs.List.Sorted.{IsStrictlyIncreasing}
 use Rattle.std.proofs.lemmas.Bool.{false≢true}
 use Rattle.std.proofs.lemmas.List.Elements.{All-contains, filter_passes}
 use Rattle.std.proofs.lemmas.List.FromFn.{length-range_with_len, get_or-range_with_len}
 use Rattle.std.proofs.lemmas.List.Kept.{IsStrictlyIncreasing-filter}
+use Rattle.scanning_theory.proofs.StartLemmas.{rising_range}
 use Rattle.grammar_data.specs.Grammar.{Grammar}
 use Rattle.grammar_theory.specs.Rules.{IsInRange, end_mark}
 use Rattle.grammar_theory.specs.Derivations.{GoesOn}
@@ -47,13 +47,6 @@ kept_by p x xs a false e passes (suc k, inside, at) rest =
 contains_filter : (p : ℕ → Bool) (xs : List ℕ) (a : ℕ) → p a ≡ true → Contains xs a → Contains (filter p xs) a
 contains_filter p [] a passes (k, inside, at) = absurd (omega (arith, inside))
 contains_filter p (x ∷ xs) a passes has = kept_by p x xs a (p x) refl passes has (contains_filter p xs a passes)
-
-rising_range : (n : ℕ) → IsStrictlyIncreasing (range_with_len 0 n)
-rising_range n k below =
-    let size : length (range_with_len 0 n) ≡ n = length-range_with_len 0 n in
-    let here : get_or (range_with_len 0 n) k 0 ≡ 0 + k = get_or-range_with_len 0 n k 0 (omega arith) in
-    let next : get_or (range_with_len 0 n) (k + 1) 0 ≡ 0 + (k + 1) = get_or-range_with_len 0 n (k + 1) 0 (omega arith) in
-    omega (arith, here, next)
 
 in_range : (n a : ℕ) → a < n → Contains (range_with_len 0 n) a
 in_range n a less =

@@ -8,7 +8,7 @@ use Rattle.std.proofs.lemmas.List.FromFn.{length-range_with_len, get_or-range_wi
 use Rattle.std.proofs.lemmas.List.Kept.{IsStrictlyIncreasing-filter}
 use Rattle.scanning_theory.specs.Lines.{begins_line, line_starts}
 
-rising_range : (n : ℕ) → IsStrictlyIncreasing (range_with_len 0 n)
+pub rising_range : (n : ℕ) → IsStrictlyIncreasing (range_with_len 0 n)
 rising_range n k below =
     let size : length (range_with_len 0 n) ≡ n = length-range_with_len 0 n in
     let here : get_or (range_with_len 0 n) k 0 ≡ 0 + k = get_or-range_with_len 0 n k 0 (omega arith) in

@@ -1,6 +1,6 @@
 -- An outline has one sheet at most, and a faultless one has some, unless that is refuted.
 use Rattle.std.proofs.Common.{◌≡◌, ℕ, ◌+◌, List, [], ◌∷◌, length, refl, sym, ap, ◌∙◌}
-use Rattle.std.specs.Prelude.{map, Contains}
+use Rattle.std.specs.Prelude.{Contains}
 use Rattle.std.specs.List.{flat_map}
 use Rattle.std.proofs.lemmas.List.Elements.{Contains-append_left, Contains-append_right, Contains-push}
 use Rattle.grammar_data.specs.Grammar.{Grammar}
@@ -15,10 +15,12 @@ use Rattle.outline_data.specs.declared.outline.Word.{Word}
 use Rattle.outline_data.specs.declared.outline.Declaration.{Declaration}
 use Rattle.outline_data.specs.declared.outline.Declaration.TheVariants.{Literal, Matched, Skip, Start}
 use Rattle.outline_data.specs.Parts.{OutlineParts}
-use Rattle.outline_theory.specs.Words.{token_words, pattern_in, starts, alternatives_of}
+use Rattle.outline_theory.specs.Words.{token_words, pattern_in}
 use Rattle.outline_theory.specs.LineFaults.{HasLineFault}
 use Rattle.outline_theory.specs.Reading.{IsFaultless}
-use Rattle.outline_theory.specs.Numbering.{AreDecls, unnamed_literals, grammar_names, rules_of, start_by, template_of, declares_of, IsSheetOf}
+use Rattle.outline_theory.specs.Numbering.{AreDecls, IsSheetOf}
+use Rattle.outline_theory.specs.MadeSheets.{sheet_with}
+use Rattle.outline_theory.proofs.SheetLemmas.{sheet_says}
 use Rattle.outline_theory.specs.Numbering.AreDecls.{no_decl, literal_first, matched_first, skip_first, start_first}
 
 -- what a sheet keeps of declarations
@@ -44,34 +46,6 @@ decls_some (d ∷ ds) spell refuted =
     let here : AllMaySpell (pattern_in d) = λ word member. spell word (Contains-append_left (pattern_in d) (flat_map pattern_in ds) word member) in
     let later : AllMaySpell (flat_map pattern_in ds) = λ word member. spell word (Contains-append_right (pattern_in d) (flat_map pattern_in ds) word member) in
     decls_some ds later (λ more. decls_more d ds here more refuted)
-
-abbrev sheet_with : OutlineParts → List Decl → Sheet
-sheet_with o decls = record {
-  decls = decls;
-  literals = unnamed_literals o;
-  names = grammar_names o;
-  grammar = record {
-    tokens = length (token_words o) + length (unnamed_literals o);
-    names = length (grammar_names o);
-    rules = rules_of o;
-    start = start_by (grammar_names o) (starts o);
-  };
-  templates = map template_of (alternatives_of o);
-  declares = map declares_of (alternatives_of o);
-}
-
-sheet_says : (o : OutlineParts) (decls : List Decl) → AreDecls o.declarations decls → IsSheetOf o (sheet_with o decls)
-sheet_says o decls are = record {
-  decls = are;
-  literals = refl;
-  names = refl;
-  tokens = refl;
-  count = refl;
-  rules = refl;
-  start = refl;
-  templates = refl;
-  declares = refl;
-}
 
 pub some_sheet : (o : OutlineParts) → IsFaultless o → ((sheet : Sheet) → IsSheetOf o sheet → ⊥) → ⊥
 some_sheet o faultless none =

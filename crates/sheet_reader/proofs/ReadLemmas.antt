@@ -16,9 +16,11 @@ use Rattle.outline_theory.specs.LineFaults.{no_spelling, empty_pattern}
 use Rattle.outline_theory.specs.Outlines.{IsOutlineOf}
 use Rattle.outline_theory.specs.Limits.{positions_in}
 use Rattle.outline_theory.specs.Numbering.{AreDecls, IsSheetOf, unnamed_literals}
+use Rattle.outline_theory.specs.MadeSheets.{sheet_with}
+use Rattle.outline_theory.proofs.SheetLemmas.{sheet_says}
 use Rattle.outline_theory.specs.Reading.{HasOutline, IsFaultless, Reads, IsFirstFault}
 use Rattle.outline_reader.specs.Faults.{IsOutlineFault}
-use Rattle.numbering_theory.specs.KeptSheets.{sheet_with, KeepsLimits, IsLimitFault}
+use Rattle.numbering_theory.specs.KeptSheets.{KeepsLimits, IsLimitFault}
 use Rattle.numbering_theory.proofs.MemberLemmas.{all_from, contains_flat}
 use Rattle.sheet_laws.proofs.SizeLemmas.{declared_within}
 use Rattle.sheet_laws.proofs.SheetLemmas.{sheet_once}
@@ -75,20 +77,6 @@ pattern_texts o declarations faultless same = subst (All HasPatternText) (sym sa
 pub are_kept : (o : OutlineParts) (declarations : List Declaration) (decls seen : List Decl) → declarations ≡ o.declarations → seen ≡ decls → AreDecls declarations decls → AreDecls o.declarations seen
 are_kept o declarations decls seen same again are =
     subst (λ ds. AreDecls ds seen) same (subst (AreDecls declarations) (sym again) are)
-
--- the sheet of an outline
-sheet_says : (o : OutlineParts) (decls : List Decl) → AreDecls o.declarations decls → IsSheetOf o (sheet_with o decls)
-sheet_says o decls are = record {
-  decls = are;
-  literals = refl;
-  names = refl;
-  tokens = refl;
-  count = refl;
-  rules = refl;
-  start = refl;
-  templates = refl;
-  declares = refl;
-}
 
 pub refused_limit : (bytes : List ℕ) (o : OutlineParts) (decls : List Decl) (fault : SheetFault) → HasOutline bytes o → IsFaultless o → AreDecls o.declarations decls → IsLimitFault (sheet_with o decls) fault → IsReadFault bytes fault
 refused_limit bytes o decls (BadByte line) has faultless are h = absurd h

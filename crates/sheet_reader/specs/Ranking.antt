@@ -1,7 +1,5 @@
 -- What a scanner asks of a sheet's patterns, and what it gets.
-use Rattle.std.specs.Prelude.{◌≡◌, ◌≤◌, List, [], length, map, sum, All}
-use Rattle.pattern_data.specs.declared.pattern.Pattern.{Pattern}
-use Rattle.pattern_data.specs.Language.{Matches, positions_of}
+use Rattle.std.specs.Prelude.{◌≡◌, List, map}
 pub use Rattle.scanning_theory.specs.Scan.{is_token, token_count}
 pub use Rattle.scanning_theory.specs.Scannable.{IsScannable}
 use Rattle.sheet_theory.specs.ScanOrder.{Ranked}

@@ -1,6 +1,6 @@
 -- What every sheet keeps, whatever bytes it was read from.
 use Rattle.std.specs.Prelude.{◌≡◌, ℕ, ◌+◌, ◌≤◌, List, [], ◌∷◌, length, sum_by, All}
-use Rattle.lr_base.specs.declared.limits.TheConstants.{TOKENS}
+use Rattle.lr_base.specs.declared.limits.TheConstants.{SKIPS, TOKENS}
 use Rattle.scanning_theory.specs.declared.limits.TheConstants.{POSITIONS}
 use Rattle.sheet_data.specs.Sheet.{Sheet}
 use Rattle.sheet_data.specs.declared.parts.Decl.{Decl}
@@ -18,7 +18,7 @@ name_in (Skip pattern) = []
 pub record IsWellFormed (sheet : Sheet) : Type 0 where
   pub tokens : sheet.grammar.tokens ≡ length (declared_names sheet.decls) + length sheet.literals
   pub count : length (declared_names sheet.decls) + length sheet.literals ≤ TOKENS
-  pub skips : sum_by skips_in sheet.decls ≤ 50
+  pub skips : sum_by skips_in sheet.decls ≤ SKIPS
   pub positions : sum_by positions_in sheet.decls + sum_by length sheet.literals ≤ POSITIONS
   pub decls : All IsOrdinaryDecl sheet.decls
   pub literals : All IsLiteralText sheet.literals

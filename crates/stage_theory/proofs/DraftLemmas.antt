@@ -14,7 +14,7 @@ use Rattle.outline_data.specs.declared.outline.PlaceUse.{PlaceUse}
 use Rattle.outline_data.specs.declared.outline.Declaration.{Declaration}
 use Rattle.outline_data.specs.declared.outline.Declaration.TheVariants.{Literal as literal_declared, Matched as matched_declared, Skip as skip_declared, Start as start_declared}
 use Rattle.outline_data.specs.declared.rules.Symbol.{Symbol}
-use Rattle.outline_data.specs.declared.rules.Symbol.TheVariants.{Name as name_symbol, Quoted as quoted_symbol}
+use Rattle.outline_data.specs.declared.rules.Symbol.TheVariants.{Name as word_symbol, Quoted as quoted_symbol}
 use Rattle.outline_data.specs.declared.rules.TemplatePart.{TemplatePart}
 use Rattle.outline_data.specs.declared.rules.TemplatePart.TheVariants.{Text as text_part, Fold as fold_part, Number as number_part}
 use Rattle.outline_data.specs.AlternativeParts.{AlternativeParts}
@@ -117,7 +117,7 @@ module _ (ds : List Declaration) where
     left_spell left lexeme line = tt
 
     side_spell : (g : GroupParts) (right : List Symbol) (lexeme : Lexeme) (line : ℕ) → IfSome (more_side ds gs g right lexeme line) (IsMore (ruling ds gs (side_open g right)) lexeme line)
-    side_spell g right (Name bytes) line = open_rule ds gs (spelled_left g (plain_side right)) _ _ (left_more g (plain_side right) _ _ (right_more right (name_symbol (word bytes line))))
+    side_spell g right (Name bytes) line = open_rule ds gs (spelled_left g (plain_side right)) _ _ (left_more g (plain_side right) _ _ (right_more right (word_symbol (word bytes line))))
     side_spell g right (Quoted bytes) line = open_rule ds gs (spelled_left g (plain_side right)) _ _ (left_more g (plain_side right) _ _ (right_more right (quoted_symbol (word bytes line))))
     side_spell g right (single_lexeme LeftBrace) line = open_rule ds gs (spelled_left g (plain_side right)) _ _ refl
     side_spell g right (directive_lexeme Declares) line = open_rule ds gs (spelled_left g (plain_side right)) _ _ refl

@@ -11,7 +11,7 @@ use Rattle.outline_data.specs.declared.outline.PlaceUse.{PlaceUse}
 use Rattle.outline_data.specs.declared.outline.Declaration.{Declaration}
 use Rattle.outline_data.specs.declared.outline.Declaration.TheVariants.{Literal as literal_declared, Matched as matched_declared, Skip as skip_declared, Start as start_declared}
 use Rattle.outline_data.specs.declared.rules.Symbol.{Symbol}
-use Rattle.outline_data.specs.declared.rules.Symbol.TheVariants.{Name as name_symbol, Quoted as quoted_symbol}
+use Rattle.outline_data.specs.declared.rules.Symbol.TheVariants.{Name as word_symbol, Quoted as quoted_symbol}
 use Rattle.outline_data.specs.declared.rules.TemplatePart.{TemplatePart}
 use Rattle.outline_data.specs.declared.rules.TemplatePart.TheVariants.{Text as text_part, Fold as fold_part, Number as number_part}
 use Rattle.outline_data.specs.AlternativeParts.{AlternativeParts}
@@ -57,7 +57,7 @@ alternative_read g a = last_open g a.right a.template a.marks
 module _ (ds : List Declaration) (gs : List GroupParts) where
   symbols_run : (g : GroupParts) (right more : List Symbol) → draft_after (ruling ds gs (side_open g right)) (map spelled_symbol more) ≡ Some (ruling ds gs (side_open g (right ++ more)))
   symbols_run g right [] = ap (λ l. Some (ruling ds gs (side_open g l))) (sym (append-nil right))
-  symbols_run g right (name_symbol w ∷ more) = symbols_run g (right ++ name_symbol w ∷ []) more ∙ ap (λ l. Some (ruling ds gs (side_open g l))) (append_assoc right (name_symbol w ∷ []) more)
+  symbols_run g right (word_symbol w ∷ more) = symbols_run g (right ++ word_symbol w ∷ []) more ∙ ap (λ l. Some (ruling ds gs (side_open g l))) (append_assoc right (word_symbol w ∷ []) more)
   symbols_run g right (quoted_symbol w ∷ more) = symbols_run g (right ++ quoted_symbol w ∷ []) more ∙ ap (λ l. Some (ruling ds gs (side_open g l))) (append_assoc right (quoted_symbol w ∷ []) more)
 
   parts_run : (g : GroupParts) (right : List Symbol) (parts more : List TemplatePart) → draft_after (ruling ds gs (template_open g right parts)) (map spelled_part more) ≡ Some (ruling ds gs (template_open g right (parts ++ more)))

@@ -10,7 +10,7 @@ use Rattle.outline_data.specs.declared.outline.PlaceUse.{PlaceUse}
 use Rattle.outline_data.specs.declared.outline.Declaration.{Declaration}
 use Rattle.outline_data.specs.declared.outline.Declaration.TheVariants.{Literal as literal_declared, Matched as matched_declared, Skip as skip_declared, Start as start_declared}
 use Rattle.outline_data.specs.declared.rules.Symbol.{Symbol}
-use Rattle.outline_data.specs.declared.rules.Symbol.TheVariants.{Name as name_symbol, Quoted as quoted_symbol}
+use Rattle.outline_data.specs.declared.rules.Symbol.TheVariants.{Name as word_symbol, Quoted as quoted_symbol}
 use Rattle.outline_data.specs.declared.rules.TemplatePart.{TemplatePart}
 use Rattle.outline_data.specs.declared.rules.TemplatePart.TheVariants.{Text as text_part, Fold as fold_part, Number as number_part}
 use Rattle.outline_data.specs.AlternativeParts.{AlternativeParts}
@@ -148,7 +148,7 @@ more_left ds gs left (single_lexeme Colon) line = Some (ruling ds gs (side_open 
 more_left ds gs left lexeme line = None
 
 abbrev pub more_side : List Declaration → List GroupParts → GroupParts → List Symbol → Lexeme → ℕ → Option Draft
-more_side ds gs g right (Name bytes) line = Some (ruling ds gs (side_open g (right ++ name_symbol (word bytes line) ∷ [])))
+more_side ds gs g right (Name bytes) line = Some (ruling ds gs (side_open g (right ++ word_symbol (word bytes line) ∷ [])))
 more_side ds gs g right (Quoted bytes) line = Some (ruling ds gs (side_open g (right ++ quoted_symbol (word bytes line) ∷ [])))
 more_side ds gs g right (single_lexeme LeftBrace) line = Some (ruling ds gs (template_open g right []))
 more_side ds gs g right (directive_lexeme Declares) line = Some (ruling ds gs (mark_begun g (plain_side right)))

@@ -1,7 +1,7 @@
-use Rattle.std.proofs.Common.{refl, sym, ◌∷◌, [], ap, ◌∙◌, string_bytes, subst, arith}
+use Rattle.std.proofs.Common.{refl, sym, ◌∙◌, string_bytes, subst, arith}
 use Rattle.run_theory.specs.declared.emit.Emit.TheVariants.{Output}
 use Rattle.answer_theory.specs.declared.task.Task.TheVariants.{Run}
-use Rattle.word_theory.specs.Words.{AreOptionsOf, run_plain, run_emits, emit_word, emit_option}
+use Rattle.word_theory.specs.Words.{AreOptionsOf, run_plain, run_emits}
 use Rattle.command_words.proofs.WordLemmas.{no_items, two_items}
 use Rattle.command_words.proofs.words.run_with.Goals as goal
 
