@@ -13,9 +13,6 @@ use Rattle.line_lexer.specs.declared.taken.Taken.TheVariants.{Token as taken_tok
 use Rattle.line_lexer.specs.Taken.{IsLongestOf, IsBadByte, IsTaken, AppendsTokens}
 
 module _ (scanning : Scanning) (text : List ℕ) (line : ℕ) where
-  pub appends-none : (at : ℕ) (tokens : List Token) → AppendsTokens scanning text line at at tokens tokens
-  appends-none at tokens = record { more = []; grown = sym (append-nil tokens); tokens = λ rest d. d }
-
   pub appends-trans : (at middle next : ℕ) (old between new : List Token) → AppendsTokens scanning text line at middle old between → AppendsTokens scanning text line middle next between new → AppendsTokens scanning text line at next old new
   appends-trans at middle next old between new a b = record {
     more = a.more ++ b.more;

@@ -7,6 +7,7 @@ ghost use Rattle.line_lexer.specs.Means.{scanning_of};
 
 use crate::lexing::Lexing;
 use crate::lines::Lines;
+use dead_ends::DeadEnds;
 use grammar_data::Token;
 use lr_base::{NoMemory, TEXT_BYTES};
 use pattern_data::Meaning;
@@ -35,10 +36,12 @@ pub fn lex_lines(
     ensures { IfOk result (λ tokens. (patterns : List Pattern) → IsScannerOf scanner.now patterns → AreTokensOfLines (scanning_of patterns means.now) text.now to from tokens.items) }
 {
     let lexing = Lexing::new(scanner, means, text);
+    let mut dead_ends = DeadEnds::new(alloc, scanner.state_count());
     let mut tokens = Vec::new(alloc);
     for line in from..to {
         let start = lines.start(line) as usize;
-        lexing.take_line(line + 1, start, &mut tokens)?;
+        dead_ends.start_line(start);
+        lexing.take_line(line + 1, start, &mut dead_ends, &mut tokens)?;
     }
     Ok(tokens)
 }

@@ -6,6 +6,7 @@ ghost use Rattle.scanning_theory.specs.Scan.{token_count};
 ghost use Rattle.token_patterns.specs.Scanner.{ranks_of};
 
 use crate::taken::Taken;
+use dead_ends::DeadEnds;
 use grammar_data::{Place, Token, TokenId};
 use lr_base::NoMemory;
 use pattern_data::Meaning;
@@ -30,7 +31,9 @@ impl<'a> Lexing<'a> {
     ghost use Rattle.pattern_data.specs.declared.pattern.Pattern.{Pattern};
     ghost use Rattle.scanning_theory.specs.Lines.{IsLineEnd};
     ghost use Rattle.scanning_theory.specs.Scan.{AreTokensFrom};
+    ghost use Rattle.dead_ends.specs.Pairs.{AreOfOneLine};
     ghost use Rattle.token_patterns.specs.Scanner.{IsScannerOf};
+    ghost use Rattle.token_patterns.specs.Walking.{AreDeadEnds};
     ghost use Rattle.line_lexer.specs.Means.{scanning_of};
     ghost use Rattle.line_lexer.specs.Taken.{IsTaken, len_of, AppendsTokens};
 
@@ -56,28 +59,41 @@ impl<'a> Lexing<'a> {
         &self,
         line: u32,
         start: usize,
+        dead_ends: &mut DeadEnds,
         tokens: &mut Vec<Token>,
     ) -> Result<(), NoMemory>
         requires start { start ≤ length self.now.text.now }
+        requires begun { dead_ends.old.begin ≤ start }
+        requires dead { AreDeadEnds self.now.scanner.now self.now.text.now dead_ends.old }
         ensures { OnOk result ((patterns : List Pattern) → IsScannerOf self.now.scanner.now patterns → (more : List Token) × (tokens.new.items ≡ tokens.old.items ++ more) × AreTokensFrom (scanning_of patterns self.now.means.now) self.now.text.now line start more) }
     {
         let mut at = start;
         while !self.ends_line(at) {
-            at = self.take(line, at, tokens)?;
+            at = self.take(line, at, dead_ends, tokens)?;
         }
         Ok(())
     }
 
     /// Takes what stands at a place where the line goes on: appends its token, unless it is skipped, and gives the place
     /// behind it.
-    fn take(&self, line: u32, at: usize, tokens: &mut Vec<Token>) -> Result<usize, NoMemory>
+    fn take(
+        &self,
+        line: u32,
+        at: usize,
+        dead_ends: &mut DeadEnds,
+        tokens: &mut Vec<Token>,
+    ) -> Result<usize, NoMemory>
         requires inside { at < length self.now.text.now }
+        requires begun { dead_ends.old.begin ≤ at }
+        requires dead { AreDeadEnds self.now.scanner.now self.now.text.now dead_ends.old }
         requires goes_on { ¬ (IsLineEnd self.now.text.now at) }
         ensures tokens { IfOk result (λ next. (patterns : List Pattern) → IsScannerOf self.now.scanner.now patterns → AppendsTokens (scanning_of patterns self.now.means.now) self.now.text.now line at next tokens.old.items tokens.new.items) }
         ensures further { IfOk result (λ next. at < next) }
         ensures within { IfOk result (λ next. next ≤ length self.now.text.now) }
+        ensures dead { AreDeadEnds self.now.scanner.now self.now.text.now dead_ends.new }
+        ensures same_line { AreOfOneLine dead_ends.old dead_ends.new }
     {
-        match self.taken_at(at) {
+        match self.taken_at(at, dead_ends) {
             Taken::Token(id, len) => {
                 tokens.push(Token {
                     id,
@@ -94,13 +110,17 @@ impl<'a> Lexing<'a> {
     }
 
     /// What the scan takes at a place where the line goes on: the longest match, or else one bad byte.
-    fn taken_at(&self, at: usize) -> Taken
-        requires { at < length self.now.text.now }
+    fn taken_at(&self, at: usize, dead_ends: &mut DeadEnds) -> Taken
+        requires inside { at < length self.now.text.now }
+        requires begun { dead_ends.old.begin ≤ at }
+        requires dead { AreDeadEnds self.now.scanner.now self.now.text.now dead_ends.old }
         ensures taken { (patterns : List Pattern) → IsScannerOf self.now.scanner.now patterns → IsTaken (scanning_of patterns self.now.means.now) self.now.text.now at result }
         ensures some { 0 < len_of result }
         ensures inside { at + len_of result ≤ length self.now.text.now }
+        ensures dead { AreDeadEnds self.now.scanner.now self.now.text.now dead_ends.new }
+        ensures same_line { AreOfOneLine dead_ends.old dead_ends.new }
     {
-        match self.scanner.longest(self.text, at) {
+        match self.scanner.longest_with(self.text, at, dead_ends) {
             None => Taken::Token(self.bad_byte, 1),
             Some((len, rank)) => match self.means[rank as usize] {
                 Meaning::Token(id) => Taken::Token(id, len),

@@ -2,6 +2,8 @@
 #![tactic(auto)]
 
 #[cfg(test)]
+mod far_scans;
+#[cfg(test)]
 mod lexemes;
 #[cfg(test)]
 mod patterns;

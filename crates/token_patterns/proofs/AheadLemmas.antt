@@ -16,18 +16,6 @@ marked old new place words byte inserted member q = (
   λ either. inserted q ∙ ⊎_elim (λ before. or_right (q == place) (has_place old q) before) (λ here. or_left (q == place) (has_place old q) (eq-eqb q place here.0)) either,
 )
 
-pub not_marked : (old : List ℕ) (place : ℕ) (words : List ℕ) (byte : ℕ) → (IsMember words byte → ⊥) → (q : ℕ) → Has old q ↔ (Has old q ⊎ ((q ≡ place) × IsMember words byte))
-not_marked old place words byte none q = (λ has. inl has, λ either. ⊎_elim (λ before. before) (λ here. absurd (none here.1)) either)
-
-pub joined_behind : (old new next set : List ℕ) (place : ℕ) → ((q : ℕ) → has_place new q ≡ (has_place old q || has_place next q)) → Has set place → (q : ℕ) → Has new q ↔ (Has old q ⊎ (Has set place × Has next q))
-joined_behind old new next set place union here q = (
-  λ has. ⊎_elim (λ before. inl before) (λ behind. inr (here, behind)) (or_cases (has_place old q) (has_place next q) (sym (union q) ∙ has)),
-  λ either. union q ∙ ⊎_elim (λ before. or_left (has_place old q) (has_place next q) before) (λ behind. or_right (has_place old q) (has_place next q) behind.1) either,
-)
-
-pub not_behind : (old next set : List ℕ) (place : ℕ) → has_place set place ≡ false → (q : ℕ) → Has old q ↔ (Has old q ⊎ (Has set place × Has next q))
-not_behind old next set place none q = (λ has. inl has, λ either. ⊎_elim (λ before. before) (λ behind. absurd (false≢true (sym none ∙ behind.0))) either)
-
 -- ---- one more position
 pub same_row : (positions : List Position) (q : ℕ) (row other : Position) → slice_get positions q ≡ Some row → slice_get positions q ≡ Some other → row ≡ other
 same_row positions q row other a b = let both : Some row ≡ Some other = sym a ∙ b in cc
@@ -74,12 +62,6 @@ module _ (positions : List Position) (place : ℕ) (row : Position) (at : slice_
     λ has. behind_one_more set q (⊎_elim (λ h. inl ((before q).0 h)) (λ h. inr h) ((now q).0 has)),
     λ behind. (now q).1 (⊎_elim (λ h. inl ((before q).1 h)) (λ h. inr h) (behind_one_less set q behind)),
   )
-
-pub mask_none : (positions : List Position) (byte : ℕ) (mask : List ℕ) → ((q : ℕ) → has_place mask q ≡ false) → (q : ℕ) → Has mask q ↔ ReadsBelow positions byte 0 q
-mask_none positions byte mask none q = (λ has. absurd (false≢true (sym (none q) ∙ has)), λ reads. absurd (let below = reads.0 in omega arith))
-
-pub ahead_none : (positions : List Position) (set ahead : List ℕ) → ((q : ℕ) → has_place ahead q ≡ false) → (q : ℕ) → Has ahead q ↔ IsBehindOneBelow positions set 0 q
-ahead_none positions set ahead none q = (λ has. absurd (false≢true (sym (none q) ∙ has)), λ behind. absurd (let below = behind.1 in omega arith))
 
 pub mask_all : (positions : List Position) (byte bound : ℕ) (mask : List ℕ) → length positions ≤ bound → ((q : ℕ) → Has mask q ↔ ReadsBelow positions byte bound q) → (q : ℕ) → Has mask q ↔ ReadsAt positions byte q
 mask_all positions byte bound mask all has q = (

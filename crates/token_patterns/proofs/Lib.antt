@@ -5,3 +5,4 @@ pub mod LongestLemmas
 pub mod SearchLemmas
 pub mod SetLemmas
 pub mod TableLemmas
+pub mod WalkLemmas

@@ -1,5 +1,5 @@
 -- The longest match, by the states of the strings that are read.
-use Rattle.std.proofs.Common.{◌≡◌, ◌≢◌, ℕ, suc, ◌+◌, ◌-◌, ◌*◌, ◌/◌, ◌%◌, ◌<◌, ◌≤◌, ◌↔◌, inl, inr, ⊎_elim, List, [], ◌∷◌, ◌++◌, length, take, drop, get_or, sym, ap, ◌∙◌, subst, arith, length-drop}
+use Rattle.std.proofs.Common.{◌≡◌, ◌≢◌, ℕ, suc, ◌+◌, ◌-◌, ◌*◌, ◌/◌, ◌%◌, ◌<◌, ◌≤◌, inl, inr, ⊎_elim, List, [], ◌∷◌, ◌++◌, length, take, drop, get_or, sym, ap, ◌∙◌, subst, arith, length-drop}
 use Rattle.std.specs.Prelude.{slice_get, slice_index, Option, Some, None, MatchOption, IfSome}
 use Rattle.std.proofs.Math.Seq.{take-add}
 use Rattle.std.proofs.lemmas.Bool.{cases_lt}
@@ -14,29 +14,13 @@ use Rattle.scanning_theory.specs.Scan.{IsMatch, HasNoMatch, IsLongest}
 use Rattle.scanning_theory.specs.declared.limits.TheConstants.{PATTERNS}
 use Rattle.token_patterns.specs.Ahead.{no_rank}
 use Rattle.token_patterns.specs.Scanner.{Table, IsStep, IsEnding, IsEnd, IsScannerOf, IsTable, EndsMatch}
-
--- the bytes that were read
-abbrev pub read_of : List ℕ → ℕ → ℕ → List ℕ
-read_of text from n = take n (drop from text)
-
--- the best match among those that are no longer than what was read
-abbrev pub IsBest : List Pattern → List ℕ → ℕ → ℕ → Option (ℕ × ℕ) → Type 0
-IsBest patterns text from read best = MatchOption best
-    ((len rank : ℕ) → len ≤ read → IsMatch patterns text from len rank → ⊥)
-    (λ found. IsMatch patterns text from found.0 found.1 × ((len rank : ℕ) → len ≤ read → IsMatch patterns text from len rank → len ≤ found.0) × ((rank : ℕ) → IsMatch patterns text from found.0 rank → found.1 ≤ rank))
-
--- the state is that of what was read
-pub record IsRead (table : Table) (patterns : List Pattern) (s : IsScannerOf table patterns) (w : List ℕ) (state : ℕ) : Type 0 where
-  pub word : List ℕ
-  pub at : slice_get s.words state ≡ Some word
-  pub same : HaveSameSet patterns word w
-  pub none : (word ≡ []) ↔ (w ≡ [])
+use Rattle.token_patterns.specs.Walking.{read_of, IsBest, IsRead}
 
 module _ (text : List ℕ) (from : ℕ) where
   pub read_length : (n : ℕ) → from + n ≤ length text → length (read_of text from n) ≡ n
   read_length n inside = length-take n (drop from text) ∙ (let rest : length (drop from text) ≡ length text - from = length-drop from text in omega (arith, rest))
 
-  read_some : (n : ℕ) → 0 < n → from + n ≤ length text → read_of text from n ≢ []
+  pub read_some : (n : ℕ) → 0 < n → from + n ≤ length text → read_of text from n ≢ []
   read_some n some inside none = let size : length (read_of text from n) ≡ 0 = ap length none in let is = read_length n inside in omega (arith, size, is, some)
 
   pub read_more : (n : ℕ) → from + n < length text → read_of text from (n + 1) ≡ read_of text from n ++ get_or text (from + n) 0 ∷ []

@@ -4,6 +4,7 @@ use Rattle.std.specs.Prelude.{◌&&◌, slice_get, slice_index, Some}
 use Rattle.std.proofs.lemmas.Bool.{false≢true, and_from, and_parts, cases_eq, cases_lt}
 use Rattle.std.proofs.lemmas.List.Elements.{All-push}
 use Rattle.std.proofs.lemmas.Option.{slice_get_within}
+use Rattle.grammar_data.proofs.WordLemmas.{equal_from_numbers}
 use Rattle.pattern_data.specs.declared.pattern.Pattern.{Pattern}
 use Rattle.position_theory.specs.Positions.{count_all, ReachesOne, IsFirstOfOne, ReadsAmong, Ends}
 use Rattle.position_theory.specs.States.{HaveSameSet, AreBytes, HaveDifferentSets, HasMoreStates, IsAhead}
@@ -14,7 +15,6 @@ use Rattle.position_theory.proofs.StateLemmas.{get_at}
 use Rattle.position_sets.specs.declared.following.Position.{Position}
 use Rattle.position_sets.specs.Joints.{AreJoint}
 use Rattle.position_sets.specs.Sets.{Has, IsSetOfWords, has_place}
-use Rattle.position_sets.proofs.PlaceLemmas.{equal_from_places}
 use Rattle.token_patterns.specs.Ahead.{IsBehindOne, ReadsAt, IsMaskOf, IsFirstRank}
 use Rattle.token_patterns.specs.Scanner.{IsStep, IsEnding, IsEnd, AreSteps, AreEnds}
 use Rattle.token_patterns.specs.Searching.{IsSetAfter, AreFound, IsAheadOf, IsSearchAt, IsCommonOf, IsCell, IsOneTooMany}
@@ -109,7 +109,9 @@ module _ (patterns : List Pattern) (size : ℕ) (sets words : List (List ℕ)) (
   one_place i j u v here there same =
       let a = set_at i u here in
       let b = set_at j v there in
-      let equal : a.0 ≡ b.0 = equal_from_places size a.0 b.0 (found.fit i a.0 a.1) (found.fit j b.0 b.1) (λ q. places q) in
+      let one : IsSetOfWords size a.0 = found.fit i a.0 a.1 in
+      let other : IsSetOfWords size b.0 = found.fit j b.0 b.1 in
+      let equal : a.0 ≡ b.0 = equal_from_numbers a.0 b.0 (one.size_is ∙ sym other.size_is) one.fit other.fit (λ q. places q) in
       found.once i j a.0 a.1 (b.1 ∙ ap Some (sym equal))
     where
       same_test : (a b : List ℕ) (q : ℕ) → (Has a q → Has b q) → (Has b q → Has a q) → has_place a q ≡ has_place b q

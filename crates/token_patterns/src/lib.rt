@@ -8,8 +8,10 @@ mod fault;
 mod masking;
 mod scanner;
 mod states;
+mod walk;
 
 pub use condition::can_build;
+pub use dead_ends::DeadEnds;
 pub use fault::ScannerFault;
 pub use pattern_data::{ByteSet, Meaning, Pattern, PatternFault};
 pub use scanner::Scanner;

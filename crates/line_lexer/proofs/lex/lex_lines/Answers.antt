@@ -10,11 +10,14 @@ use Rattle.line_lexer.proofs.lex.lex_lines.Goals as goal
 pub loop-line-init : goal.loop-line-init
 loop-line-init c = λ patterns of. rw c.new-tokens.ensures.items (no_line refl)
 
-pub take_line-requires : goal.take_line-requires
-take_line-requires c =
+pub take_line-requires-clause-start : goal.take_line-requires-clause-start
+take_line-requires-clause-start c =
     let inside : c.start-start.result < length c.args.text.now = start-inside c.args.text.now c.args.lines.now c.loop-line.line c.start-start.result c.requires.lines c.start-start.ensures in
     let same = ap length c.new-lexing.ensures.text in
     omega (arith, inside, same)
+
+pub take_line-requires-clause-dead : goal.take_line-requires-clause-dead
+take_line-requires-clause-dead c = λ place state keeps. absurd (c.start_line.ensures.none place state keeps)
 
 pub loop-line-preserved : goal.loop-line-preserved
 loop-line-preserved c = λ patterns of.

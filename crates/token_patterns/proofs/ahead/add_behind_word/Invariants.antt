@@ -1,4 +1,4 @@
-use Rattle.std.proofs.Common.{ℕ, ◌*◌, ◌↔◌}
+use Rattle.std.proofs.Common.{ℕ, ◌↔◌}
 use Rattle.position_sets.specs.Sets.{Has, IsSetOfWords}
 use Rattle.token_patterns.specs.Ahead.{IsBehindOneBelow}
 use Rattle.token_patterns.proofs.ahead.add_behind_word.Given as goal

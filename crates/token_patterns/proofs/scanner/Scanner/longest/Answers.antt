@@ -1,78 +1,12 @@
-use Rattle.std.proofs.Common.{◌≡◌, ℕ, ◌+◌, ◌-◌, ◌*◌, ◌<◌, ◌≤◌, List, length, get_or, sym, ap, ◌∙◌, subst, arith}
-use Rattle.std.specs.Prelude.{slice_index, None}
-use Rattle.token_patterns.specs.Scanner.{Table, IsTable, EndsMatch}
-use Rattle.token_patterns.proofs.LongestLemmas.{read_of, IsRead, IsBest, read_start, best_start, best_more, read_on, dead_end, longest_of, all_read, ended_keeps, within_more, rank_of_end, cell_inside}
+use Rattle.std.proofs.Common.{length}
+use Rattle.token_patterns.proofs.WalkLemmas.{walk_answer, ends_before}
 use Rattle.token_patterns.proofs.scanner.Scanner.longest.Goals as goal
 
-pub loop-at-init : goal.loop-at-init
-loop-at-init c =
-    let table = c.args.self.now in
-    let is : IsTable table = subst IsTable c.self.view_is c.self.invariant in
-    let none : c.args.from - c.args.from ≡ 0 = omega arith in
-    record {
-      inside = is.some;
-      some = tt;
-      within = tt;
-      ranked = tt;
-      read = λ patterns s. subst (λ n. IsRead table patterns s (read_of c.args.text.now c.args.from n) 0) (sym none) (read_start table patterns s c.args.text.now c.args.from);
-      best = λ patterns s. subst (λ n. IsBest patterns c.args.text.now c.args.from n None) (sym none) (best_start table patterns s c.args.text.now c.args.from);
-    }
-
-pub returns-then-state-eq0-clause-longest : goal.returns-then-state-eq0-clause-longest
-returns-then-state-eq0-clause-longest c = λ patterns s.
-    let table = c.args.self.now in
-    let text = c.args.text.now in
-    let from = c.args.from in
-    let at = c.loop-at.at in
-    let n : ℕ = at - from in
-    let is : IsTable table = subst IsTable c.self.view_is c.self.invariant in
-    let after : from ≤ at = c.loop-at.auto.at in
-    let here : from + n ≡ at = omega (arith, after) in
-    let inside : from + n < length text = omega (arith, here, c.loop-at-test.true) in
-    let byte : get_or text at 0 ≡ get_or text (from + n) 0 = ap (λ k. get_or text k 0) (sym here) in
-    let cells : c.as_slice-cells.result.now ≡ table.cells = c.as_slice-cells.ensures.value ∙ ap (λ (t : Table). t.cells) c.self.view_is in
-    let cell : c.step-state.result ≡ slice_index table.cells (256 * c.loop-at.state + get_or text at 0) = c.step-state.ensures ∙ ap (λ l. slice_index l (256 * c.loop-at.state + get_or text at 0)) cells in
-    longest_of table patterns s text from n c.loop-at.best
-    (dead_end table patterns s text from n c.loop-at.state (get_or text at 0) c.step-state.result inside byte (c.type_inv.text at).fits (c.loop-at.invariant.read patterns s) is.sized cell c.if-state-eq0.true)
-    (c.loop-at.invariant.best patterns s)
-
-pub loop-at-preserved : goal.loop-at-preserved
-loop-at-preserved c =
-    let table = c.args.self.now in
-    let text = c.args.text.now in
-    let from = c.args.from in
-    let at = c.loop-at.at in
-    let old = c.loop-at.state in
-    let state = c.step-state.result in
-    let n : ℕ = at - from in
-    let is : IsTable table = subst IsTable c.self.view_is c.self.invariant in
-    let after : from ≤ at = c.loop-at.auto.at in
-    let here : from + n ≡ at = omega (arith, after) in
-    let inside : from + n < length text = omega (arith, here, c.loop-at-test.true) in
-    let byte : get_or text at 0 ≡ get_or text (from + n) 0 = ap (λ k. get_or text k 0) (sym here) in
-    let small : get_or text at 0 < 256 = (c.type_inv.text at).fits in
-    let cells : c.as_slice-cells.result.now ≡ table.cells = c.as_slice-cells.ensures.value ∙ ap (λ (t : Table). t.cells) c.self.view_is in
-    let ends : c.as_slice-ends.result.now ≡ table.ends = c.as_slice-ends.ensures.value ∙ ap (λ (t : Table). t.ends) c.self.view_is in
-    let cell : state ≡ slice_index table.cells (256 * old + get_or text at 0) = c.step-state.ensures ∙ ap (λ l. slice_index l (256 * old + get_or text at 0)) cells in
-    let below : 256 * old + get_or text at 0 < length table.cells = let sized = is.sized in let under = c.loop-at.invariant.inside in omega (arith, small, sized, under) in
-    let state_inside : state < length table.ends = subst (λ k. k < length table.ends) (sym cell) (cell_inside table (256 * old + get_or text at 0) is below) in
-    let more : at + 1 - from ≡ n + 1 = omega (arith, after) in
-    let ended : EndsMatch (slice_index table.ends state) (n + 1) c.loop-at.best c.ended-best.result =
-    subst (λ (l : List ℕ). EndsMatch (slice_index l state) (n + 1) c.loop-at.best c.ended-best.result) ends (subst (λ len. EndsMatch (slice_index c.as_slice-ends.result.now state) len c.loop-at.best c.ended-best.result) more c.ended-best.ensures) in
-    record {
-      inside = state_inside;
-      some = ended_keeps (λ found. 0 < found.0) (slice_index table.ends state) (n + 1) c.loop-at.best c.ended-best.result ended c.loop-at.invariant.some (λ other. omega arith);
-      within = ended_keeps (λ found. from + found.0 ≤ at + 1) (slice_index table.ends state) (n + 1) c.loop-at.best c.ended-best.result ended (within_more c.loop-at.best from at c.loop-at.invariant.within) (λ other. omega (arith, here));
-      ranked = ended_keeps (λ found. found.1 < table.ranks) (slice_index table.ends state) (n + 1) c.loop-at.best c.ended-best.result ended c.loop-at.invariant.ranked (λ other. rank_of_end table state is state_inside other);
-      read = λ patterns s. subst (λ k. IsRead table patterns s (read_of text from k) state) (sym more)
-          (read_on table patterns s text from n old (get_or text at 0) state inside byte small (c.loop-at.invariant.read patterns s) is.sized cell c.if-state-eq0.false);
-      best = λ patterns s. subst (λ k. IsBest patterns text from k c.ended-best.result) (sym more)
-          (best_more table patterns s text from n state (omega (arith, inside))
-          (read_on table patterns s text from n old (get_or text at 0) state inside byte small (c.loop-at.invariant.read patterns s) is.sized cell c.if-state-eq0.false)
-          is.few c.loop-at.best c.ended-best.result ended (c.loop-at.invariant.best patterns s));
-    }
+pub walk-requires-clause-walk : goal.walk-requires-clause-walk
+walk-requires-clause-walk c = c.start.ensures.walk c.args.text.now c.requires
 
 pub returns-clause-longest : goal.returns-clause-longest
-returns-clause-longest c = λ patterns s.
-    let n : ℕ = c.loop-at.at - c.args.from in
-    longest_of c.args.self.now patterns s c.args.text.now c.args.from n c.loop-at.best (all_read c.args.self.now patterns s c.args.text.now c.args.from n (omega arith)) (c.loop-at.invariant.best patterns s)
+returns-clause-longest c = walk_answer c.args.self.now c.args.text.now c.args.from c.walk.result c.walk.ensures.walk c.walk.ensures.to
+
+pub returns-clause-inside : goal.returns-clause-inside
+returns-clause-inside c = ends_before c.walk.result.best c.args.from c.walk.result.at (length c.args.text.now) c.walk.ensures.walk.inside c.walk.ensures.walk.within

@@ -2,8 +2,8 @@ use Rattle.std.proofs.Common.{◌+◌, ◌-◌, ◌<◌, ◌≤◌, List, length
 use Rattle.std.specs.Prelude.{IfSome}
 use Rattle.pattern_data.specs.declared.pattern.Pattern.{Pattern}
 use Rattle.token_patterns.specs.Scanner.{IsScannerOf}
-use Rattle.token_patterns.proofs.LongestLemmas.{read_of, IsBest, IsRead}
-use Rattle.token_patterns.proofs.scanner.Scanner.longest.Given as goal
+use Rattle.token_patterns.specs.Walking.{read_of, IsBest, IsRead}
+use Rattle.token_patterns.proofs.scanner.Scanner.walk.Given as goal
 
 abbrev pub invariant-loop-at : goal.invariant-loop-at
 invariant-loop-at l = record {
