@@ -1,0 +1,22 @@
+use Rattle.std.proofs.Common.{◌≡◌, ◌<◌, length, sym, ◌∙◌, subst, arith}
+use Rattle.sample_text.specs.Closings.{IsClosedBy}
+use Rattle.sample_text.proofs.ClosingLemmas.{found_at, none_some, some_closing_same}
+use Rattle.sample_text.proofs.choices.Chooser.closing_rule.Goals as goal
+
+pub unreachable-requires : goal.unreachable-requires
+unreachable-requires c =
+    let s = c.args.self.now in
+    let n = c.args.name in
+    let closing = c.requires.can.closings_are n c.requires.name in
+    let below : n < length s.closings.items = omega (arith, c.requires.name, c.requires.can.closing_count) in
+    none_some (found_at s.closings.items c.name.inside.0 n c.index.result.now c.index.ensures c.name.view_is below ∙ c.in-None.is) closing.1
+
+pub returns : goal.returns
+returns c =
+    let s = c.args.self.now in
+    let n = c.args.name in
+    let closing = c.requires.can.closings_are n c.requires.name in
+    let below : n < length s.closings.items = omega (arith, c.requires.name, c.requires.can.closing_count) in
+    let same : closing.0 ≡ c.in-Some.closing = some_closing_same (sym closing.1 ∙ found_at s.closings.items c.name.inside.0 n c.index.result.now c.index.ensures c.name.view_is below ∙ c.in-Some.is) in
+    let is : IsClosedBy s.grammar.now n c.in-Some.closing = subst (IsClosedBy s.grammar.now n) same closing.2 in
+    (is.right, is.closing)

@@ -1,0 +1,9 @@
+use Rattle.std.proofs.Common.{◌≡◌, false}
+use Rattle.sample_text.specs.Closings.{AllAreBelow, IsRound}
+use Rattle.sample_text.proofs.closing.close_round.Given as goal
+
+abbrev pub invariant-loop-rule : goal.invariant-loop-rule
+invariant-loop-rule l = record {
+  round : IsRound l.grammar l.height l.rule l.closings.items;
+  below : l.more ≡ false → AllAreBelow l.closings.items l.height;
+}

@@ -1,0 +1,4 @@
+pub mod Answering
+pub mod Choosing
+pub mod Closings
+pub mod Wording

@@ -1,0 +1,5 @@
+pub mod ShortestWords
+pub mod WordNumbers
+pub mod ClosingRules
+pub mod Choices
+pub mod Samples
