@@ -8,7 +8,7 @@ FORM is one of
            the last name's
   counts   how many tokens, names, rules and symbols there are
 
-Templates and %declares are dropped. Tokens are those of the %token lines in their order, then the unnamed literals in the order in which they
+Patterns, templates and marks are not written. Tokens are those of the %token lines in their order, then the unnamed literals in the order in which they
 first stand in a right side; names are the left sides in the order in which they first stand before a colon. The sheet has to be one of the sheet
 language; that its names have rules is looked at, the conditions on templates and on patterns are not."""
 import re
@@ -52,12 +52,14 @@ def lexemes(sheet):
 
 
 class Grammar:
-    """Tokens by their printed names, names, the start, and rules: a left side and a right side of ('token' or 'name', number)."""
+    """Tokens by their printed names, names, the start, and rules: a left side and a right side of ('token' or 'name', number). Of what is scanned, the
+    patterns in their order, each with the number of its token, None for a skip; of each rule the parts of its template, and the places of its marks."""
 
     def __init__(self, sheet):
         self.read = lexemes(sheet)
         self.at = 0
         self.tokens, self.names, self.rules, self.start = [], [], [], None
+        self.scanned, self.templates, self.marks = [], [], []
         self.token_numbers, self.literals, self.name_numbers = {}, {}, {}
         self.declarations()
         self.rule_lines()
@@ -83,11 +85,11 @@ class Grammar:
                 if self.next_is('quoted'):
                     self.literals[bytes_of(self.take('quoted'))] = len(self.tokens)
                 else:
-                    self.take('pattern')
+                    self.scanned.append((self.take('pattern'), len(self.tokens)))
                 self.token_numbers[name] = len(self.tokens)
                 self.tokens.append(name)
             elif directive == b'%skip':
-                self.take('pattern')
+                self.scanned.append((self.take('pattern'), None))
             elif directive == b'%start':
                 self.start = self.take('name').decode()
             else:
@@ -114,15 +116,20 @@ class Grammar:
             kind, text, line = self.read[self.at]
             self.at += 1
             side.append((kind, text, line))
+        parts, marks = [('place', b'$%d' % place) for place in range(1, len(side) + 1)], []
         if self.next_is('single', b'{'):
             self.take('single')
+            parts = []
             while self.next_is('string') or self.next_is('place'):
+                parts.append(self.read[self.at][:2])
                 self.at += 1
             self.take('single', b'}')
         while self.next_is('directive', b'%declares'):
             self.take('directive')
-            self.take('number')
+            marks.append(int(self.take('number')))
         self.sides.append((left, side))
+        self.templates.append(parts)
+        self.marks.append(marks)
 
     def symbol(self, kind, text, line):
         if kind == 'quoted':

@@ -5,52 +5,12 @@ The sheet is a little language of declarations and sums; texts are made by rule 
 token. A text that is wrong at its last token is scanned and parsed whole, with all its nodes, and one that is wrong at its
 first token is scanned whole and parsed no further: the difference, in turns, is the parse of all tokens with its reductions."""
 import os
-import random
 import statistics
 import sys
 import tempfile
 
+from texts import LITTLE, little
 from timed import timed
-
-SHEET = r"""%token LET 'let'
-%token NAME /[a-z][a-z0-9]*/
-%token NUMBER /[0-9]+/
-%skip /[ \t\r]+/
-%start program
-%%
-program : program statement { $1 $2 } | statement ;
-statement : LET NAME '=' sum ';' { "new " #2 " = " $4 "\n" } %declares 2
-          | NAME '=' sum ';' { "set " #1 " = " $3 "\n" } ;
-sum : sum '+' product { "(" $1 "+" $3 ")" } | product ;
-product : product '*' atom { "(" $1 "*" $3 ")" } | atom ;
-atom : NUMBER | NAME { "v" #1 } | '(' sum ')' { $2 } ;
-"""
-
-
-def name(draw):
-    return 'abcdefghij'[draw.randrange(10)] + 'quantity of goods'.replace(' ', '')[:draw.randrange(8, 15)] + str(draw.randrange(40))
-
-
-def atom(draw, depth):
-    kind = draw.randrange(6)
-    if kind == 0 and depth < 4:
-        return '(' + sum_of(draw, depth + 1) + ')'
-    return str(draw.randrange(10 ** 9)) if kind < 3 else name(draw)
-
-
-def sum_of(draw, depth):
-    return ' + '.join(' * '.join(atom(draw, depth) for _ in range(draw.randrange(1, 3))) for _ in range(draw.randrange(1, 4)))
-
-
-def text(size):
-    draw = random.Random(size)
-    lines, length = [], 0
-    while True:
-        line = ('let ' if draw.randrange(3) == 0 else '') + name(draw) + ' = ' + sum_of(draw, 0) + ';\n'
-        if length + len(line) > size - 4:
-            return ''.join(lines)
-        lines.append(line)
-        length += len(line)
 
 
 def main():
@@ -61,9 +21,9 @@ def main():
     parses, wholes = [], []
     with tempfile.TemporaryDirectory() as place:
         with open(place + '/sheet', 'w') as file:
-            file.write(SHEET)
+            file.write(LITTLE)
         for mib in (1, 2, 4, 8):
-            body = text(mib << 20)
+            body = little(mib << 20)
             for which, content in (('first', '; ' + body), ('last', body + '; '), ('right', body)):
                 with open('%s/%s' % (place, which), 'w') as file:
                     file.write(content)

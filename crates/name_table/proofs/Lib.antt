@@ -1,3 +1,4 @@
 pub mod EntryLemmas
+pub mod MarkingLemmas
 pub mod PendingLemmas
 pub mod WayLemmas

@@ -1,24 +1,27 @@
 -- One part more is looked at.
-use Rattle.std.proofs.Common.{◌≡◌, ℕ, suc, ◌+◌, ◌<◌, ◌≤◌, List, [], ◌∷◌, ◌++◌, length, true, false, refl, sym, ap, subst, ◌∙◌, arith}
-use Rattle.std.specs.Prelude.{if◌then◌else◌, All, slice_get, Option, Some, unwrap_or}
+use Rattle.std.proofs.Common.{◌≡◌, ℕ, suc, ◌+◌, ◌<◌, ◌≤◌, List, [], ◌∷◌, ◌++◌, length, Bool, true, false, refl, sym, ap, subst, ◌∙◌, arith}
+use Rattle.std.specs.Prelude.{if◌then◌else◌, All, slice_get, Option, Some, IsSome, unwrap_or}
 use Rattle.std.specs.Option.{option_map}
 use Rattle.std.proofs.lemmas.List.{append-nil, append_assoc, length-append, length_push}
 use Rattle.std.proofs.lemmas.List.Sums.{get_or-le-sum_by}
-use Rattle.std.proofs.lemmas.Option.{same_Some}
+use Rattle.std.proofs.lemmas.Option.{same_Some, slice_get_within}
+use Rattle.grammar_data.specs.declared.rule.Sym.{Sym}
 use Rattle.grammar_data.specs.declared.token.Token.{Token as TextToken}
+use Rattle.grammar_data.specs.Grammar.{Rule}
 use Rattle.grammar_theory.specs.Trees.{Tree, Forest, yield, yields, Leaf, Node as Inner, NoTree, FirstTree}
 use Rattle.node_data.specs.declared.kid.Kid.{Kid}
 use Rattle.node_data.specs.declared.kid.Kid.TheVariants.{Token, Node, Hidden}
 use Rattle.tree_theory.specs.Stores.{Ref, Store}
 use Rattle.finished_theory.specs.FinishedTrees.{IsFinished}
 use Rattle.sheet_data.specs.Sheet.{Sheet}
-use Rattle.translation_theory.specs.TokenTexts.{bytes_of, IsInText}
+use Rattle.translation_theory.specs.TokenTexts.{bytes_of}
 use Rattle.translation_theory.specs.Marks.{is_declared, leaf_at, marked_leaves, marked_among}
 use Rattle.translation_theory.specs.DeclaredNames.{Row, rows_of, noted, names_of}
 use Rattle.translation_theory.proofs.NotedLemmas.{one_noted, counted}
 use Rattle.name_table.specs.Pending.{pending_kids, ArePending, none_pending, node_pending, IsUnderWay}
 use Rattle.name_table.proofs.EntryLemmas.{few_noted}
-use Rattle.name_table.proofs.PendingLemmas.{next_leaf_of, IsNextNode, next_node_of, not_hidden, nothing_pending, kids_behind}
+use Rattle.name_table.proofs.PendingLemmas.{next_leaf_of, IsNextNode, next_node_of, not_hidden, nothing_pending, kids_behind, as_many}
+use Rattle.name_table.specs.Markings.{AreSettled, declared_by}
 
 -- ---- how many names there are, and how many leaves each has
 
@@ -40,10 +43,6 @@ few_times text leaves k d inside =
     let part = get_or-le-sum_by (λ (row : Row). row.times) (rows_of text leaves) k d inside in
     let all = counted text leaves in
     omega (arith, part, all)
-
--- a tree has no more marked leaves than tokens
-few_at : (sheet : Sheet) (r i : ℕ) (tree : Tree) → length (leaf_at sheet r i tree) + length (marked_leaves sheet tree) ≤ length (yield tree) → length (leaf_at sheet r i tree ++ marked_leaves sheet tree) ≤ length (yield tree)
-few_at sheet r i tree few = let count = length-append (leaf_at sheet r i tree) (marked_leaves sheet tree) in omega (arith, count, few)
 
 module _ (sheet : Sheet) where
   leaf_few : (r i : ℕ) (token : TextToken) → length (leaf_at sheet r i (Leaf token)) ≤ 1
@@ -71,9 +70,6 @@ module _ (sheet : Sheet) where
 -- ---- a leaf
 
 module _ (sheet : Sheet) (text : List ℕ) (store : Store) (all : List TextToken) (parts : List Kid) (part : Kid) (rows : List Row) (way : IsUnderWay sheet text store all (parts ++ part ∷ []) rows) where
-  pub leaf_here : (token : TextToken) → part ≡ Token token → IsInText text token
-  leaf_here token e = let next = next_leaf_of parts part token way.pending e in next.inside
-
   some_left : (token : TextToken) → part ≡ Token token → length way.done < length all
   some_left token e =
       let next = next_leaf_of parts part token way.pending e in
@@ -109,6 +105,9 @@ module _ (sheet : Sheet) (text : List ℕ) (store : Store) (all : List TextToken
   pub node_next : (node : Ref) → part ≡ Node node → IsNextNode sheet text store parts node way.more
   node_next node e = next_node_of parts part node way.pending e
 
+  pub node_there : (node : Ref) → part ≡ Node node → IsSome (store node)
+  node_there node e = let next = node_next node e in subst IsSome (sym next.at) refl
+
   rule_is : {r : ℕ} {kids : List Kid} (rule : ℕ) (found : Option (ℕ × List Kid)) → found ≡ Some (r, kids) → option_map (λ n. n.0) found ≡ Some rule → r ≡ rule
   rule_is {r} rule found at e = same_Some r rule (sym (ap (option_map (λ (n : ℕ × List Kid). n.0)) at) ∙ e)
 
@@ -118,16 +117,31 @@ module _ (sheet : Sheet) (text : List ℕ) (store : Store) (all : List TextToken
   pub rule_within : (node : Ref) (rule : ℕ) → part ≡ Node node → option_map (λ n. n.0) (store node) ≡ Some rule → rule < length sheet.grammar.rules
   rule_within node rule e is =
       let next = node_next node e in
-      subst (λ r. r < length sheet.grammar.rules) (rule_is rule (store node) next.at is) next.within
+      subst (λ r. r < length sheet.grammar.rules) (rule_is rule (store node) next.at is) (slice_get_within sheet.grammar.rules next.rule (next.name, next.right) next.ruled.found)
 
-  pub node_taken : (node : Ref) (rule : ℕ) (kids : List Kid) (declared : List ℕ) (now : List Kid) → part ≡ Node node → option_map (λ n. n.0) (store node) ≡ Some rule → option_map (λ n. n.1) (store node) ≡ Some kids → slice_get sheet.declares rule ≡ Some declared → now ≡ parts ++ pending_kids declared 1 kids → IsUnderWay sheet text store all now rows
-  node_taken node rule kids declared now e rule_at kids_at declares is =
+  -- the right side of the node's rule
+  right_is : (node : Ref) (e : part ≡ Node node) (rule : ℕ) (right : List Sym) → option_map (λ n. n.0) (store node) ≡ Some rule → option_map (λ (r : Rule). r.1) (slice_get sheet.grammar.rules rule) ≡ Some right → (node_next node e).right ≡ right
+  right_is node e rule right rule_at right_at =
+      let next = node_next node e in
+      let same : next.rule ≡ rule = rule_is rule (store node) next.at rule_at in
+      let found : slice_get sheet.grammar.rules rule ≡ Some (next.name, next.right) = subst (λ r. slice_get sheet.grammar.rules r ≡ Some (next.name, next.right)) same next.ruled.found in
+      same_Some next.right right (sym (ap (option_map (λ (r : Rule). r.1)) found) ∙ right_at)
+
+  pub kid_each : (node : Ref) (rule : ℕ) (right : List Sym) (kids : List Kid) → part ≡ Node node → option_map (λ n. n.0) (store node) ≡ Some rule → option_map (λ (r : Rule). r.1) (slice_get sheet.grammar.rules rule) ≡ Some right → option_map (λ n. n.1) (store node) ≡ Some kids → length kids ≡ length right
+  kid_each node rule right kids e rule_at right_at kids_at =
+      let next = node_next node e in
+      let same : next.kids ≡ kids = kids_are kids (store node) next.at kids_at in
+      ap length (sym same) ∙ as_many next.shows next.trees_are ∙ ap length (right_is node e rule right rule_at right_at)
+
+  pub node_taken : (marking : List Bool) → AreSettled sheet marking → (node : Ref) (rule : ℕ) (right : List Sym) (kids : List Kid) (declared : List ℕ) (now : List Kid) → part ≡ Node node → option_map (λ n. n.0) (store node) ≡ Some rule → option_map (λ (r : Rule). r.1) (slice_get sheet.grammar.rules rule) ≡ Some right → option_map (λ n. n.1) (store node) ≡ Some kids → slice_get sheet.declares rule ≡ Some declared → now ≡ parts ++ pending_kids declared marking 1 right kids → IsUnderWay sheet text store all now rows
+  node_taken marking settled node rule right kids declared now e rule_at right_at kids_at declares is =
       let next = node_next node e in
       let same_rule : next.rule ≡ rule = rule_is rule (store node) next.at rule_at in
       let same_kids : next.kids ≡ kids = kids_are kids (store node) next.at kids_at in
-      let marks : unwrap_or (slice_get sheet.declares next.rule) [] ≡ declared = ap (λ r. unwrap_or (slice_get sheet.declares r) []) same_rule ∙ ap (λ o. unwrap_or o []) declares in
-      let behind = kids_behind sheet text store parts next.more next.pending next.rule 1 next.shows next.trees_are next.inside in
-      let parts_are : parts ++ pending_kids (unwrap_or (slice_get sheet.declares next.rule) []) 1 next.kids ≡ now = ap (λ d. parts ++ pending_kids d 1 next.kids) marks ∙ ap (λ k. parts ++ pending_kids declared 1 k) same_kids ∙ sym is in
+      let marks : declared_by sheet next.rule ≡ declared = ap (declared_by sheet) same_rule ∙ ap (λ o. unwrap_or o []) declares in
+      let behind = kids_behind sheet text store marking settled parts next.more next.pending next.rule 1 next.shows next.trees_are next.inside in
+      let parts_are : parts ++ pending_kids (declared_by sheet next.rule) marking 1 next.right next.kids ≡ now =
+      ap (λ d. parts ++ pending_kids d marking 1 next.right next.kids) marks ∙ ap (λ x. parts ++ pending_kids declared marking 1 x next.kids) (right_is node e rule right rule_at right_at) ∙ ap (λ k. parts ++ pending_kids declared marking 1 right k) same_kids ∙ sym is in
       record {
         done = way.done;
         more = marked_among sheet next.rule 1 next.trees ++ next.more;

@@ -1,27 +1,23 @@
 -- Parts of trees that are still to be looked at for marked leaves, the next one last.
-use Rattle.std.specs.Prelude.{◌≡◌, ℕ, suc, Bool, true, false, ◌==◌, if◌then◌else◌, List, [], ◌∷◌, ◌++◌, All}
-use Rattle.std.specs.List.{list_any}
+use Rattle.std.specs.Prelude.{◌≡◌, ℕ, suc, Bool, if◌then◌else◌, List, [], ◌∷◌, ◌++◌, All}
 use Rattle.grammar_data.specs.declared.rule.Sym.{Sym}
 use Rattle.grammar_data.specs.declared.token.Token.{Token as TextToken}
 use Rattle.grammar_theory.specs.Trees.{Tree, IsTree, yield}
 use Rattle.node_data.specs.declared.kid.Kid.{Kid}
-use Rattle.node_data.specs.declared.kid.Kid.TheVariants.{Token, Node, Hidden}
+use Rattle.node_data.specs.declared.kid.Kid.TheVariants.{Token, Node}
 use Rattle.tree_theory.specs.Stores.{Ref, Store, Shows}
 use Rattle.sheet_data.specs.Sheet.{Sheet}
 use Rattle.translation_theory.specs.TokenTexts.{IsInText}
 use Rattle.translation_theory.specs.Marks.{marked_leaves}
 use Rattle.translation_theory.specs.DeclaredNames.{Row, rows_of}
+use Rattle.name_table.specs.Markings.{is_marked_part}
 
--- whether a kid that is part `i` has marked leaves, or may have some: it is a node, or a token that is declared
-abbrev pub is_pending : List ℕ → ℕ → Kid → Bool
-is_pending declared i (Token token) = list_any (λ place. place == i) declared
-is_pending declared i (Node node) = true
-is_pending declared i Hidden = false
-
--- those of the kids, the first of which is part `i`, the last one first
-abbrev pub pending_kids : List ℕ → ℕ → List Kid → List Kid
-pending_kids declared i [] = []
-pending_kids declared i (kid ∷ kids) = pending_kids declared (suc i) kids ++ (if is_pending declared i kid then kid ∷ [] else [])
+-- those of a node's kids that may have marked leaves, the first of which is part `i`, the last one first; the symbols are
+-- those of the right side of its rule, which declares these places
+abbrev pub pending_kids : List ℕ → List Bool → ℕ → List Sym → List Kid → List Kid
+pending_kids declared marking i [] kids = []
+pending_kids declared marking i (x ∷ xs) [] = []
+pending_kids declared marking i (x ∷ xs) (kid ∷ kids) = pending_kids declared marking (suc i) xs kids ++ (if is_marked_part declared marking i x then kid ∷ [] else [])
 
 -- the marked leaves of parts: each is a marked leaf, or shows a tree
 pub data ArePending (sheet : Sheet) (text : List ℕ) (store : Store) : List Kid → List TextToken → Type 0 where

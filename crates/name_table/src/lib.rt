@@ -2,6 +2,7 @@
 #![tactic(auto)]
 
 mod entries;
+mod markings;
 mod names;
 mod parts;
 mod row;

@@ -5,8 +5,10 @@ ghost use Rattle.grammar_theory.specs.Trees.{Tree};
 ghost use Rattle.node_store.specs.Chunks.{store_of};
 ghost use Rattle.translation_theory.specs.DeclaredNames.{names_of};
 ghost use Rattle.finished_theory.specs.FinishedTrees.{IsFinished};
+ghost use Rattle.name_table.specs.Markings.{AreSettled};
 ghost use Rattle.name_table.specs.Pending.{IsUnderWay};
 
+use crate::markings::marking_names;
 use crate::names::Names;
 use crate::parts::push_parts;
 use lr_base::{NoMemory, TEXT_BYTES};
@@ -15,16 +17,18 @@ use node_store::{PackedKid, Store};
 use sheet_reader::Sheet;
 use std::alloc::Global;
 
-/// Looks at one part: a marked leaf is noted, and the parts of a node are put behind the others.
+/// Looks at one part: a marked leaf is noted, and those parts of a node that may have marked leaves are put behind the others.
 fn take_part<'a>(
     sheet: &Sheet,
+    marking: &[bool],
     store: &Store,
     text: &'a [u8],
     part: PackedKid,
     parts: &mut Vec<PackedKid>,
     names: &mut Names<'a>,
 ) -> Result<(), NoMemory>
-    requires { (all : List TextToken) × (length all ≤ TEXT_BYTES) × IsUnderWay sheet.now text.now (store_of store.now) all (parts.old.items ++ part ∷ []) names.old }
+    requires settled { AreSettled sheet.now marking.now }
+    requires way { (all : List TextToken) × (length all ≤ TEXT_BYTES) × IsUnderWay sheet.now text.now (store_of store.now) all (parts.old.items ++ part ∷ []) names.old }
     ensures { (all : List TextToken) → length all ≤ TEXT_BYTES → IsUnderWay sheet.now text.now (store_of store.now) all (parts.old.items ++ part ∷ []) names.old → OnOk result (IsUnderWay sheet.now text.now (store_of store.now) all parts.new.items names.new) }
 {
     match part.kid() {
@@ -34,8 +38,10 @@ fn take_part<'a>(
             names.note(&text[start..end], token.place.line)
         }
         Kid::Node(node) => {
-            let declared = sheet.declares(store.rule(node));
-            push_parts(declared, store.kids(node), parts)
+            let rule = store.rule(node);
+            let declared = sheet.declares(rule);
+            let right = sheet.grammar().right(rule);
+            push_parts(declared, marking, right, store.kids(node), parts)
         }
         Kid::Hidden => Ok(()),
     }
@@ -44,6 +50,7 @@ fn take_part<'a>(
 /// The names that a finished tree of the sheet over the text declares: the different byte strings of its marked leaves, from
 /// left to right, each with its number, the line of its first marked leaf, and how many it has. The text has at most
 /// 8,388,608 bytes. No call recurses on the tree; of its nodes only what is still to be looked at is kept, 16 bytes a part.
+/// A node whose name has no rule that declares, nor a name below it that has one, isn't looked at.
 pub fn declared<'a>(
     alloc: Global,
     sheet: &Sheet,
@@ -55,13 +62,14 @@ pub fn declared<'a>(
     requires tree { (tree : Tree) × IsFinished sheet.now text.now (store_of store.now) root tree }
     ensures { IfOk result (λ names. (tree : Tree) → IsFinished sheet.now text.now (store_of store.now) root tree → names ≡ names_of sheet.now text.now tree) }
 {
+    let marking = marking_names(alloc, sheet)?;
     let mut names = Names::new(alloc);
     let mut parts = Vec::new(alloc);
     parts.push(PackedKid::of(Kid::Node(root)))?;
     // No tree has so many parts that this ends before they do.
     for _ in 0..u64::MAX {
         match parts.pop() {
-            Some(part) => take_part(sheet, store, text, part, &mut parts, &mut names)?,
+            Some(part) => take_part(sheet, &marking, store, text, part, &mut parts, &mut names)?,
             None => return Ok(names),
         }
     }

@@ -11,7 +11,7 @@ use Rattle.std.specs.Fmt.{decimal}
 use Rattle.translation_theory.specs.Translations.{at_place, template_in}
 use Rattle.tree_theory.specs.Stores.{Ref}
 use Rattle.templates.specs.Sources.{Source, AreKids, HasForest, HasRules, IsTreeAt, all_given, given, kid_at, token_bytes}
-use Rattle.templates.specs.Pending.{Gives, Pending, all_ended, one_begun, IsPending, Goes, GoesOn, Unfolds, gathered, begun}
+use Rattle.templates.specs.Pending.{Gives, Pending, all_ended, one_begun, IsPending, Goes, GoesOn, HasLeft, nothing_left, parts_left, Moves, part_gone, Unfolds, gathered, begun}
 use Rattle.templates.specs.declared.frame.Frame.{Frame}
 use Rattle.templates.proofs.KidLemmas.{NodeGives, one_kid, kid_bytes_at, translation_in, translations_in}
 
@@ -108,18 +108,36 @@ unfolds_before {source} {before = before} {one = one} {rest = rest} (begun more 
   joined = refl;
 }
 
+-- what is left of a begun template is pending before the others
+left_pending : {source : Source} {others left : List Frame} {next : Frame} {own bytes : List ℕ} → Gives source next own → HasLeft next others left → Pending source others bytes → Pending source left (own ++ bytes)
+left_pending {source} {left = left} {own = own} {bytes = bytes} gives (nothing_left none now) pending =
+    let nothing : own ≡ [] = gives.is ∙ ap (all_given source gives.trees) none in
+    subst (λ own. Pending source left (own ++ bytes)) (sym nothing) (subst (λ all. Pending source all bytes) (sym now) pending)
+left_pending {source} {own = own} {bytes = bytes} gives (parts_left now) pending =
+    subst (λ all. Pending source all (own ++ bytes)) (sym now) (pending_push gives pending)
+
 -- the template that was begun last goes on by its next part
-pub step_goes : {source : Source} {old behind : List Frame} (frames now : List Frame) (frame next : Frame) (part : Part) {before after : List ℕ} → old ≡ frames ++ frame ∷ [] → behind ≡ frames ++ next ∷ [] → frame.parts.now ≡ part ∷ next.parts.now → next.kids.now ≡ frame.kids.now → ((trees : Forest) → AreKids source frame.kids.now trees → Unfolds source behind now before after (given source trees part)) → GoesOn source old now before after
-step_goes {source} {behind = behind} frames now frame next part {before} {after} old more parts kids unfolds bytes pending =
-    let last : LastPending source frames frame bytes = pending_last frames frame (subst (λ all. Pending source all bytes) old pending) in
+pub step_goes : {source : Source} {old left : List Frame} (others now : List Frame) (frame next : Frame) (part : Part) {before after : List ℕ} → old ≡ others ++ frame ∷ [] → HasLeft next others left → frame.parts.now ≡ part ∷ next.parts.now → next.kids.now ≡ frame.kids.now → ((trees : Forest) → AreKids source frame.kids.now trees → Unfolds source left now before after (given source trees part)) → GoesOn source old now before after
+step_goes {source} {left = left} others now frame next part {before} {after} old has parts kids unfolds bytes pending =
+    let last : LastPending source others frame bytes = pending_last others frame (subst (λ all. Pending source all bytes) old pending) in
     let trees : Forest = last.gives.trees in
     let rest : List ℕ = all_given source trees next.parts.now in
     let next_gives : Gives source next rest = record { trees = trees; kids = subst (λ kids. AreKids source kids trees) (sym kids) last.gives.kids; is = refl } in
-    let next_pending : Pending source behind (rest ++ last.rest) = subst (λ all. Pending source all (rest ++ last.rest)) (sym more) (pending_push next_gives last.pending) in
-    let goes : Goes source now before after (given source trees part ++ (rest ++ last.rest)) = unfolds_before (unfolds trees last.gives.kids) next_pending in
+    let goes : Goes source now before after (given source trees part ++ (rest ++ last.rest)) = unfolds_before (unfolds trees last.gives.kids) (left_pending next_gives has last.pending) in
     let all : bytes ≡ given source trees part ++ (rest ++ last.rest) =
     last.joined ∙ ap (λ own. own ++ last.rest) (last.gives.is ∙ ap (all_given source trees) parts) ∙ append_assoc (given source trees part) rest last.rest in
     subst (λ bytes. Goes source now before after bytes) (sym all) goes
+
+-- after a part the templates that were begun before are still begun
+unfolds_moves : {source : Source} {frames now : List Frame} {before after one : List ℕ} → Unfolds source frames now before after one → (more : List Frame) × (now ≡ frames ++ more)
+unfolds_moves {frames = frames} (gathered same is) = ([], same ∙ sym (append-nil frames))
+unfolds_moves (begun {frame = frame} more gives is) = (frame ∷ [], more)
+
+pub step_moves : {source : Source} {old left : List Frame} (others now : List Frame) (frame next : Frame) (part : Part) {before after : List ℕ} → IsPending source old → old ≡ others ++ frame ∷ [] → HasLeft next others left → frame.parts.now ≡ part ∷ next.parts.now → next.kids.now ≡ frame.kids.now → ((trees : Forest) → AreKids source frame.kids.now trees → Unfolds source left now before after (given source trees part)) → Moves old now
+step_moves {left = left} others now frame next part pending old has parts kids unfolds =
+    let forest = last_kids others frame pending old in
+    let opened = unfolds_moves (unfolds forest.0 forest.1) in
+    part_gone others frame next part left opened.0 old parts kids has opened.1
 
 pub on_ok : {A E : Type 0} {P Q : Type 0} (result : Result A E) → (P → Q) → OnOk result P → OnOk result Q
 on_ok (Ok a) so h = so h

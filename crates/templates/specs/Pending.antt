@@ -1,6 +1,7 @@
 -- What is still to be written of a tree: the nodes whose templates were begun and not ended, each inside the one before it.
 use Rattle.std.specs.Prelude.{◌≡◌, ℕ, List, [], ◌∷◌, ◌++◌}
 use Rattle.grammar_theory.specs.Trees.{Forest}
+use Rattle.sheet_data.specs.declared.parts.Part.{Part}
 use Rattle.templates.specs.Sources.{Source, AreKids, all_given}
 use Rattle.templates.specs.declared.frame.Frame.{Frame}
 
@@ -34,3 +35,15 @@ GoesOn source frames now before after = (bytes : List ℕ) → Pending source fr
 pub data Unfolds (source : Source) (frames now : List Frame) (before after bytes : List ℕ) : Type 0 where
   gathered : now ≡ frames → after ≡ before ++ bytes → Unfolds source frames now before after bytes
   begun : {frame : Frame} → now ≡ frames ++ frame ∷ [] → Gives source frame bytes → after ≡ before → Unfolds source frames now before after bytes
+
+-- a begun template stands behind the others; where it has no part left, it is ended
+pub data HasLeft (next : Frame) (others now : List Frame) : Type 0 where
+  nothing_left : next.parts.now ≡ [] → now ≡ others → HasLeft next others now
+  parts_left : now ≡ others ++ next ∷ [] → HasLeft next others now
+
+-- what a step does to the begun templates: where the last one has no part left, it is ended; else its next part is gone, and
+-- others may be begun behind what is left of it
+pub data Moves (frames now : List Frame) : Type 0 where
+  none_begun : frames ≡ [] → now ≡ frames → Moves frames now
+  last_ended : (others : List Frame) (frame : Frame) → frames ≡ others ++ frame ∷ [] → frame.parts.now ≡ [] → now ≡ others → Moves frames now
+  part_gone : (others : List Frame) (frame next : Frame) (part : Part) (left more : List Frame) → frames ≡ others ++ frame ∷ [] → frame.parts.now ≡ part ∷ next.parts.now → next.kids.now ≡ frame.kids.now → HasLeft next others left → now ≡ left ++ more → Moves frames now

@@ -26,9 +26,9 @@ pub struct Source<'a, 'b> {
 impl<'a, 'b> Model for Source<'a, 'b> {
     ghost use Rattle.std.specs.Coded.{codes};
     ghost use Rattle.pattern_data.specs.contracts.pattern.Pattern as pattern;
-    ghost use Rattle.templates.specs.Sources.{Source as Parts};
+    ghost use Rattle.templates.specs.Sources.{Source as SourceParts};
 
-    ghost Value = { Parts };
+    ghost Value = { SourceParts };
 
     ghost coded = { Prim.hlevel (codes, pattern.the_row.coded) };
 

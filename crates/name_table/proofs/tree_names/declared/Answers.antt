@@ -6,6 +6,7 @@ use Rattle.node_store.specs.Chunks.{store_of}
 use Rattle.translation_theory.specs.Marks.{marked_leaves}
 use Rattle.translation_theory.specs.DeclaredNames.{names_of}
 use Rattle.finished_theory.proofs.FinishedLemmas.{one_finished}
+use Rattle.name_table.specs.Markings.{AreSettled}
 use Rattle.name_table.specs.Pending.{IsUnderWay}
 use Rattle.name_table.proofs.WayLemmas.{begun, ended, few_marked}
 use Rattle.name_table.proofs.tree_names.declared.Goals as goal
@@ -21,8 +22,11 @@ loop-init c =
       way = subst (λ p. IsUnderWay c.args.sheet.now c.args.text.now (store_of c.args.store.now) (marked_leaves c.args.sheet.now tree) p c.new-names.result) (sym parts_are) (subst (λ r. IsUnderWay c.args.sheet.now c.args.text.now (store_of c.args.store.now) (marked_leaves c.args.sheet.now tree) (Node c.args.root ∷ []) r) (sym c.new-names.ensures) way);
     }
 
-pub take_part-requires : goal.take_part-requires
-take_part-requires c =
+pub take_part-requires-clause-settled : goal.take_part-requires-clause-settled
+take_part-requires-clause-settled c = subst (AreSettled c.args.sheet.now) (sym c.deref.ensures.value) c.in_ok-marking.ensures
+
+pub take_part-requires-clause-way : goal.take_part-requires-clause-way
+take_part-requires-clause-way c =
     let small = few_marked c.args.sheet.now c.args.text.now (store_of c.args.store.now) c.args.root c.loop.invariant.tree c.loop.invariant.finished in
     let within = c.requires.text in (
       marked_leaves c.args.sheet.now c.loop.invariant.tree,

@@ -27,11 +27,11 @@ returns-in_err-step-clause-written g c = λ tree shows rules.
 
 pub returns-in_err-pass-clause-written : goal.returns-in_err-pass-clause-written
 returns-in_err-pass-clause-written g c = λ tree shows rules.
-    err_at (IsWritten _ _ _) c.from_residual-in_err-pass.result Failed c.from_residual-in_err-pass.ensures.1 (step_failed _ _ _ (c.loop-step.invariant.each tree shows rules) c.in_ok-step.ensures c.in_err-pass.ensures.failed)
+    err_at (IsWritten _ _ _) c.from_residual-in_err-pass.result Failed c.from_residual-in_err-pass.ensures.1 (step_failed _ _ _ (c.loop-step.invariant.each tree shows rules) c.in_ok-step.ensures.goes c.in_err-pass.ensures.failed)
 
 pub loop-step-preserved : goal.loop-step-preserved
 loop-step-preserved g c = record {
-  each = λ tree shows rules. goes_on _ _ _ (c.loop-step.invariant.each tree shows rules) c.in_ok-step.ensures c.in_ok-pass.ensures.passed;
+  each = λ tree shows rules. goes_on _ _ _ (c.loop-step.invariant.each tree shows rules) c.in_ok-step.ensures.goes c.in_ok-pass.ensures.passed;
   same = search all_rules;
 }
 
