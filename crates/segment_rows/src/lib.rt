@@ -1,0 +1,5 @@
+//! Worked rows of cuttings of texts into segments.
+#![tactic(auto)]
+
+#[cfg(test)]
+mod cuttings;
