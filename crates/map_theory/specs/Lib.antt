@@ -1,0 +1,4 @@
+pub mod Maps
+pub mod Relations
+pub mod Agreements
+pub mod Laws

@@ -1,0 +1,6 @@
+pub mod PartsLemmas
+pub mod ClassLemmas
+pub mod SpreadLemmas
+pub mod ArrowLemmas
+pub mod MakingLemmas
+pub mod AgreeLemmas

@@ -1,0 +1,4 @@
+pub mod Classes
+pub mod Parts
+pub mod Within
+pub mod Spreads
