@@ -1,0 +1,5 @@
+pub mod FallLemmas
+pub mod PutLemmas
+pub mod RunLemmas
+pub mod ArmLemmas
+pub mod OpeningLemmas

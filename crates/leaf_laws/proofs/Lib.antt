@@ -1,0 +1,4 @@
+pub mod EndLemmas
+pub mod StepLemmas
+pub mod PartLemmas
+pub mod MadeLemmas

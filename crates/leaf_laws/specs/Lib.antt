@@ -1,0 +1,5 @@
+pub mod Leaves
+pub mod Steps
+pub mod Laws
+pub mod Closing
+pub mod OpenPieces

@@ -1,0 +1,96 @@
+use grammar_data::{RuleId, StateId, Token};
+use node_data::NodeRef;
+use state_sets::Arrow;
+use std::marker::Model;
+
+/// What opened a floor: the rule of the reduction, how many of its symbols are hidden in the stack below, at least one and
+/// not all, and the node that it made.
+#[derive(Clone, Copy, Debug)]
+pub struct Opened {
+    pub node: NodeRef,
+    pub rule: RuleId,
+    pub hidden: u32,
+}
+
+impl Model for Opened {
+    ghost use Rattle.piece_theory.specs.Pieces.{Opened as OpenedBy};
+
+    ghost Value = { OpenedBy };
+
+    ghost view = { λ s. record { rule = s.rule; hidden = s.hidden; node = s.node } };
+
+    ghost inverse = { λ opened. record { node = opened.node; rule = opened.rule; hidden = opened.hidden } };
+}
+
+/// A start at which the tokens of a piece err: in this state on top, under the token at this index, counted from the piece's
+/// first token.
+#[derive(Clone, Copy, Debug)]
+pub struct StartFault {
+    pub token: Token,
+    pub start: StateId,
+    pub index: u32,
+    pub state: StateId,
+}
+
+impl Model for StartFault {
+    ghost use Rattle.piece_theory.specs.Pieces.{Fault};
+
+    ghost Value = { Fault };
+
+    ghost view = { λ s. record { start = s.start; index = s.index; token = s.token; state = s.state } };
+
+    ghost inverse = { λ fault. record { token = fault.token; start = fault.start; index = fault.index; state = fault.state } };
+}
+
+/// A floor of a piece: what opened it, which is nothing for the first one; the starts that are alive, each with the start of
+/// the floor below that it leads to, on the first floor with itself; and the starts that err.
+#[derive(Debug, Drop)]
+pub struct Floor {
+    starts: Arrow,
+    faults: Vec<StartFault>,
+    opened: Option<Opened>,
+}
+
+impl Model for Floor {
+    ghost use Rattle.piece_theory.specs.Pieces.{Floor as FloorParts};
+
+    ghost Value = { FloorParts };
+
+    ghost view = { λ s. record { opened = s.opened; starts = s.starts; faults = s.faults.items } };
+}
+
+impl Floor {
+    ghost use Rattle.std.specs.Prelude.{◌≡◌};
+
+    /// A floor.
+    pub fn new(opened: Option<Opened>, starts: Arrow, faults: Vec<StartFault>) -> Floor
+        ensures { result ≡ record { opened = opened; starts = starts; faults = faults.items } }
+    {
+        Floor {
+            starts,
+            faults,
+            opened,
+        }
+    }
+
+    /// What opened it; nothing for the first floor.
+    pub fn opened(&self) -> Option<Opened>
+        ensures { result ≡ self.now.opened }
+    {
+        self.opened
+    }
+
+    /// The alive starts, each with the start of the floor below.
+    pub fn starts(&self) -> &Arrow
+        ensures { result.now ≡ self.now.starts }
+    {
+        &self.starts
+    }
+
+    /// The starts that err.
+    pub fn faults(&self) -> &[StartFault]
+        ensures { result.now ≡ self.now.faults }
+    {
+        &self.faults
+    }
+}

@@ -1,0 +1,5 @@
+pub mod Pieces
+pub mod Applies
+pub mod WellMade
+pub mod Lists
+pub mod Laws

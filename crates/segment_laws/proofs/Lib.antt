@@ -1,0 +1,3 @@
+pub mod KidLemmas
+pub mod StepLemmas
+pub mod EndLemmas

@@ -1,0 +1,10 @@
+pub mod HeldLemmas
+pub mod DeathLemmas
+pub mod AtLemmas
+pub mod LookLemmas
+pub mod TakeLemmas
+pub mod WholeLemmas
+pub mod ReduceLemmas
+pub mod CloseLemmas
+pub mod SettleLemmas
+pub mod ReadLemmas

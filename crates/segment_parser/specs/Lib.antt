@@ -1,0 +1,3 @@
+pub mod Working
+pub mod Standing
+pub mod Settling

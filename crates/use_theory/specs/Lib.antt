@@ -1,0 +1,5 @@
+pub mod Counts
+pub mod Distinct
+pub mod Fills
+pub mod Spines
+pub mod Kept
