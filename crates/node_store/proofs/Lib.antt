@@ -1,4 +1,6 @@
 pub mod FlatLemmas
+pub mod LinkLemmas
+pub mod ChunkLemmas
 pub mod SlotLemmas
 pub mod ChunkListLemmas
 pub mod StoreLemmas

@@ -1,28 +1,30 @@
 ghost use Rattle.std.specs.Prelude.{◌≡◌, ◌<◌, drop, length, slice_get};
+ghost use Rattle.node_store.specs.Kids.{kids_seen};
 
-use crate::packed_kid::PackedKid;
+use crate::kids::Kids;
 use node_data::{Kid, NodeRef};
 use std::marker::Model;
 
 /// A node that was entered, and those of its kids that are still to come. Contracts see the pair.
 #[derive(Drop)]
 pub struct Frame<'a> {
-    rest: &'a [PackedKid],
+    rest: Kids<'a>,
     node: NodeRef,
 }
 
 impl<'a> Model for Frame<'a> {
+    ghost use Rattle.node_store.specs.Kids.{kids_seen};
     ghost use Rattle.node_store.specs.Walking.{Frame as Entered};
 
     ghost Value = { Entered };
 
-    ghost view = { λ s. (s.node, s.rest.now) };
+    ghost view = { λ s. (s.node, kids_seen s.rest) };
 }
 
 impl<'a> Frame<'a> {
     /// A node with all its kids.
-    pub fn new(node: NodeRef, kids: &'a [PackedKid]) -> Frame<'a>
-        ensures { result ≡ (node, kids.now) }
+    pub fn new(node: NodeRef, kids: Kids<'a>) -> Frame<'a>
+        ensures { result ≡ (node, kids_seen kids.entry) }
     {
         Frame { rest: kids, node }
     }
@@ -38,10 +40,7 @@ impl<'a> Frame<'a> {
     pub fn next_kid(&self) -> Option<Kid>
         ensures { result ≡ slice_get self.now.1 0 }
     {
-        match self.rest.first() {
-            Some(kid) => Some(kid.kid()),
-            None => None,
-        }
+        self.rest.get(0)
     }
 
     /// Goes past the next kid.
@@ -49,6 +48,6 @@ impl<'a> Frame<'a> {
         requires { 0 < length self.old.1 }
         ensures { self.new ≡ (self.old.0, drop 1 self.old.1) }
     {
-        self.rest = &self.rest[1..];
+        self.rest = self.rest.rest();
     }
 }

@@ -1,10 +1,11 @@
 ghost use Rattle.std.specs.Prelude.{◌≡◌, ℕ, List, ◌∷◌, reverse, OnOk, OnErr};
 ghost use Rattle.node_data.specs.declared.kid.Kid.{Kid as AKid};
 ghost use Rattle.node_store.specs.Walking.{Frame as Entered};
+ghost use Rattle.node_store.specs.Kids.{kids_seen};
 ghost use Rattle.node_store.specs.Frames.{HasNext, IsTop, top_of};
 
 use crate::frame::Frame;
-use crate::packed_kid::PackedKid;
+use crate::kids::Kids;
 use grammar_data::Token;
 use lr_base::NoMemory;
 use node_data::{Kid, NodeRef};
@@ -44,12 +45,8 @@ pub fn innermost(frames: &[Frame<'_>]) -> Top
 }
 
 /// Enters a node.
-pub fn push<'a>(
-    frames: &mut Vec<Frame<'a>>,
-    node: NodeRef,
-    kids: &'a [PackedKid],
-) -> Result<(), NoMemory>
-    ensures ok { OnOk result (reverse frames.new.items ≡ (node, kids.now) ∷ reverse frames.old.items) }
+pub fn push<'a>(frames: &mut Vec<Frame<'a>>, node: NodeRef, kids: Kids<'a>) -> Result<(), NoMemory>
+    ensures ok { OnOk result (reverse frames.new.items ≡ (node, kids_seen kids.entry) ∷ reverse frames.old.items) }
     ensures err { OnErr result (frames.new.items ≡ frames.old.items) }
 {
     frames.push(Frame::new(node, kids))?;
@@ -76,15 +73,11 @@ pub fn skip(frames: &mut Vec<Frame<'_>>)
 }
 
 /// Enters the node that the next kid of the innermost node is, and goes past that kid.
-pub fn enter<'a>(
-    frames: &mut Vec<Frame<'a>>,
-    node: NodeRef,
-    kids: &'a [PackedKid],
-) -> Result<(), NoMemory>
+pub fn enter<'a>(frames: &mut Vec<Frame<'a>>, node: NodeRef, kids: Kids<'a>) -> Result<(), NoMemory>
     requires { HasNext (reverse frames.old.items) }
     ensures ok { OnOk result ((n : ℕ × ℕ) (kid : AKid) (rest : List AKid) (below : List Entered)
         → reverse frames.old.items ≡ (n, kid ∷ rest) ∷ below
-        → reverse frames.new.items ≡ (node, kids.now) ∷ (n, rest) ∷ below) }
+        → reverse frames.new.items ≡ (node, kids_seen kids.entry) ∷ (n, rest) ∷ below) }
     ensures err { OnErr result (frames.new.items ≡ frames.old.items) }
 {
     let last = frames.len() - 1;

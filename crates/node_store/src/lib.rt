@@ -4,6 +4,9 @@
 mod chunk;
 mod frame;
 mod frames;
+mod kids;
+mod link;
+mod links;
 mod node;
 mod packed_kid;
 mod slots;
@@ -11,6 +14,7 @@ mod step;
 mod store;
 mod walk;
 
+pub use kids::Kids;
 pub use node_data::{Kid, NodeRef};
 pub use packed_kid::PackedKid;
 pub use step::Step;

@@ -1,11 +1,11 @@
 use grammar_data::RuleId;
 
-/// A node as its chunk keeps it: its rule, where its kids begin among those of the chunk, and how many there are.
+/// A node as its chunk keeps it: where its kids end among those of the chunk, and its rule. They begin where those of the
+/// node before it end.
 #[derive(Clone, Copy, Debug)]
 pub struct Node {
-    pub first: u64,
+    pub end: u32,
     pub rule: RuleId,
-    pub count: u32,
 }
 
-const _: () = prove!(std::mem::size_of::<Node>() == 16);
+const _: () = prove!(std::mem::size_of::<Node>() == 8);

@@ -3,8 +3,10 @@ ghost use Rattle.std.specs.Option.{option_map};
 ghost use Rattle.node_data.specs.declared.kid.Kid.{Kid};
 ghost use Rattle.node_data.specs.declared.kid.Kid.TheVariants.{Hidden};
 ghost use Rattle.node_store.specs.Chunks.{AddsNode, AreApart, HasChunk, IsHiddenAt, IsNodeOf, IsPlaceOf, StoresBoth, StoresKid, StoresNode, SetsKid, node_count_in, numbers_in, store_of};
+ghost use Rattle.node_store.specs.Kids.{kids_seen};
 
 use crate::chunk::Chunk;
+use crate::kids::Kids;
 use crate::packed_kid::PackedKid;
 use crate::slots::{MOST_CHUNKS, grow, set_slots};
 use grammar_data::RuleId;
@@ -17,8 +19,8 @@ use std::marker::Model;
 /// also where it is appended to another. Contracts see the list of the chunks in the order in which they came, each its
 /// number and its nodes, each node the number of its rule and its kids; `store_of` is what trees see of it.
 ///
-/// The number of a chunk finds it by one load, in a list that is as long as the greatest number asks. A kid takes 16 bytes and
-/// a node 16, beside the lists' spare room. No call recurses on trees.
+/// The number of a chunk finds it by one load, in a list that is as long as the greatest number asks. A node takes 8 bytes, a
+/// kid that is a node of the same chunk 4, and any other kid 20, beside the lists' spare room. No call recurses on trees.
 #[derive(Debug, Drop)]
 pub struct Store {
     chunks: Vec<Chunk>,
@@ -95,7 +97,8 @@ impl Store {
     }
 
     /// Adds a node to a chunk. Its reference is the chunk and the number of nodes that the chunk had. A refused call leaves
-    /// the store as it was; a node has fewer than 2^32 kids, and a store fewer than 2^64 nodes.
+    /// the store as it was. The nodes of a chunk have fewer than 2^32 kids in all, at most 2^31 of them tokens, hidden or nodes
+    /// of other chunks, and a store has fewer than 2^64 nodes; more is want of memory.
     pub fn add(&mut self, chunk: u32, rule: RuleId, kids: &[PackedKid]) -> Result<NodeRef, NoMemory>
         requires { HasChunk self.old chunk }
         ensures added { IfOk result (λ node. AddsNode self.old self.new chunk rule kids.now node) }
@@ -164,9 +167,9 @@ impl Store {
     }
 
     /// The kids of a node.
-    pub fn kids(&self, node: NodeRef) -> &[PackedKid]
+    pub fn kids(&self, node: NodeRef) -> Kids<'_>
         requires { IsNodeOf self.now node }
-        ensures { option_map (λ n. n.1) (store_of self.now node) ≡ Some result.now }
+        ensures { option_map (λ n. n.1) (store_of self.now node) ≡ Some (kids_seen result) }
     {
         self.chunks[self.place_of(node.chunk)].kids(node.place)
     }

@@ -44,8 +44,8 @@ fn is_node(store: &Store, node: NodeRef, rule: RuleId, kids: &[Kid]) -> bool
 {
     let found = store.kids(node);
     let mut same = store.rule(node) == rule && found.len() == kids.len();
-    for (one, other) in found.iter().zip(kids) {
-        same = same && one.kid() == *other;
+    for (at, other) in kids.iter().enumerate() {
+        same = same && found.get(at) == Some(*other);
     }
     same
 }

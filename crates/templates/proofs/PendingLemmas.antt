@@ -4,6 +4,7 @@ use Rattle.std.specs.Prelude.{Some, OnOk}
 use Rattle.grammar_theory.specs.Trees.{Tree, Forest}
 use Rattle.node_data.specs.declared.kid.Kid.{Kid}
 use Rattle.node_store.specs.Chunks.{store_of}
+use Rattle.node_store.specs.Kids.{kids_seen}
 use Rattle.sheet_data.specs.declared.parts.Part.{Part}
 use Rattle.sheet_data.specs.declared.parts.Part.TheVariants.{Fold, Number}
 use Rattle.translation_theory.specs.DeclaredNames.{number_in}
@@ -41,7 +42,7 @@ pending_last (first ∷ frames) frame (one_begun {own = mine} {inner = inner} gi
     }
 
 -- a node whose template is begun gives its translation
-pub node_begun : {source : Source} {node : Ref} {bytes : List ℕ} (frame : Frame) → NodeGives source node bytes → ((rule : ℕ) (kids : List Kid) → store_of source.chunks node ≡ Some (rule, kids) → (frame.kids.now ≡ kids) × (frame.parts.now ≡ template_in source.sheet rule)) → Gives source frame bytes
+pub node_begun : {source : Source} {node : Ref} {bytes : List ℕ} (frame : Frame) → NodeGives source node bytes → ((rule : ℕ) (kids : List Kid) → store_of source.chunks node ≡ Some (rule, kids) → ((kids_seen frame.kids) ≡ kids) × (frame.parts.now ≡ template_in source.sheet rule)) → Gives source frame bytes
 node_begun {source} {node} frame gives is =
     let of_node = is gives.rule gives.kids gives.at in record {
       trees = gives.trees;
@@ -53,7 +54,7 @@ pub root_gives : (source : Source) (node : Ref) (tree : Tree) → IsTreeAt sourc
 root_gives source node tree shows rules = (one_kid source shows rules).0
 
 -- the template of a node is begun, and no other
-pub begun_alone : {source : Source} {node : Ref} (tree : Tree) (frame : Frame) {frames : List Frame} → IsTreeAt source.chunks node tree → HasRules source.sheet tree → frames ≡ frame ∷ [] → ((rule : ℕ) (kids : List Kid) → store_of source.chunks node ≡ Some (rule, kids) → (frame.kids.now ≡ kids) × (frame.parts.now ≡ template_in source.sheet rule)) → Pending source frames (translation_in source tree)
+pub begun_alone : {source : Source} {node : Ref} (tree : Tree) (frame : Frame) {frames : List Frame} → IsTreeAt source.chunks node tree → HasRules source.sheet tree → frames ≡ frame ∷ [] → ((rule : ℕ) (kids : List Kid) → store_of source.chunks node ≡ Some (rule, kids) → ((kids_seen frame.kids) ≡ kids) × (frame.parts.now ≡ template_in source.sheet rule)) → Pending source frames (translation_in source tree)
 begun_alone {source} {node} tree frame shows rules alone is =
     subst (λ frames. Pending source frames (translation_in source tree)) (sym alone) (one_begun (node_begun frame (root_gives source node tree shows rules) is) all_ended refl)
 
@@ -86,7 +87,7 @@ step_ends {source} frames frame {gathered} bytes pending old none =
     }
 
 -- the kids of the node whose template was begun last
-pub last_kids : {source : Source} {old : List Frame} (frames : List Frame) (frame : Frame) → IsPending source old → old ≡ frames ++ frame ∷ [] → HasForest source frame.kids.now
+pub last_kids : {source : Source} {old : List Frame} (frames : List Frame) (frame : Frame) → IsPending source old → old ≡ frames ++ frame ∷ [] → HasForest source (kids_seen frame.kids)
 last_kids {source} frames frame (bytes, pending) old =
     let last : LastPending source frames frame bytes = pending_last frames frame (subst (λ all. Pending source all bytes) old pending) in
     (last.gives.trees, last.gives.kids)
@@ -117,7 +118,7 @@ left_pending {source} {own = own} {bytes = bytes} gives (parts_left now) pending
     subst (λ all. Pending source all (own ++ bytes)) (sym now) (pending_push gives pending)
 
 -- the template that was begun last goes on by its next part
-pub step_goes : {source : Source} {old left : List Frame} (others now : List Frame) (frame next : Frame) (part : Part) {before after : List ℕ} → old ≡ others ++ frame ∷ [] → HasLeft next others left → frame.parts.now ≡ part ∷ next.parts.now → next.kids.now ≡ frame.kids.now → ((trees : Forest) → AreKids source frame.kids.now trees → Unfolds source left now before after (given source trees part)) → GoesOn source old now before after
+pub step_goes : {source : Source} {old left : List Frame} (others now : List Frame) (frame next : Frame) (part : Part) {before after : List ℕ} → old ≡ others ++ frame ∷ [] → HasLeft next others left → frame.parts.now ≡ part ∷ next.parts.now → kids_seen next.kids ≡ (kids_seen frame.kids) → ((trees : Forest) → AreKids source (kids_seen frame.kids) trees → Unfolds source left now before after (given source trees part)) → GoesOn source old now before after
 step_goes {source} {left = left} others now frame next part {before} {after} old has parts kids unfolds bytes pending =
     let last : LastPending source others frame bytes = pending_last others frame (subst (λ all. Pending source all bytes) old pending) in
     let trees : Forest = last.gives.trees in
@@ -133,7 +134,7 @@ unfolds_moves : {source : Source} {frames now : List Frame} {before after one : 
 unfolds_moves {frames = frames} (gathered same is) = ([], same ∙ sym (append-nil frames))
 unfolds_moves (begun {frame = frame} more gives is) = (frame ∷ [], more)
 
-pub step_moves : {source : Source} {old left : List Frame} (others now : List Frame) (frame next : Frame) (part : Part) {before after : List ℕ} → IsPending source old → old ≡ others ++ frame ∷ [] → HasLeft next others left → frame.parts.now ≡ part ∷ next.parts.now → next.kids.now ≡ frame.kids.now → ((trees : Forest) → AreKids source frame.kids.now trees → Unfolds source left now before after (given source trees part)) → Moves old now
+pub step_moves : {source : Source} {old left : List Frame} (others now : List Frame) (frame next : Frame) (part : Part) {before after : List ℕ} → IsPending source old → old ≡ others ++ frame ∷ [] → HasLeft next others left → frame.parts.now ≡ part ∷ next.parts.now → kids_seen next.kids ≡ (kids_seen frame.kids) → ((trees : Forest) → AreKids source (kids_seen frame.kids) trees → Unfolds source left now before after (given source trees part)) → Moves old now
 step_moves {left = left} others now frame next part pending old has parts kids unfolds =
     let forest = last_kids others frame pending old in
     let opened = unfolds_moves (unfolds forest.0 forest.1) in

@@ -1,6 +1,7 @@
 -- What is still to be written of a tree: the nodes whose templates were begun and not ended, each inside the one before it.
 use Rattle.std.specs.Prelude.{◌≡◌, ℕ, List, [], ◌∷◌, ◌++◌}
 use Rattle.grammar_theory.specs.Trees.{Forest}
+use Rattle.node_store.specs.Kids.{kids_seen}
 use Rattle.sheet_data.specs.declared.parts.Part.{Part}
 use Rattle.templates.specs.Sources.{Source, AreKids, all_given}
 use Rattle.templates.specs.declared.frame.Frame.{Frame}
@@ -8,7 +9,7 @@ use Rattle.templates.specs.declared.frame.Frame.{Frame}
 -- the rest of a begun template gives the bytes
 pub record Gives (source : Source) (frame : Frame) (bytes : List ℕ) : Type 0 where
   pub trees : Forest
-  pub kids : AreKids source frame.kids.now trees
+  pub kids : AreKids source (kids_seen frame.kids) trees
   pub is : bytes ≡ all_given source trees frame.parts.now
 
 -- the rests of begun templates give the bytes, the last one's first
@@ -46,4 +47,4 @@ pub data HasLeft (next : Frame) (others now : List Frame) : Type 0 where
 pub data Moves (frames now : List Frame) : Type 0 where
   none_begun : frames ≡ [] → now ≡ frames → Moves frames now
   last_ended : (others : List Frame) (frame : Frame) → frames ≡ others ++ frame ∷ [] → frame.parts.now ≡ [] → now ≡ others → Moves frames now
-  part_gone : (others : List Frame) (frame next : Frame) (part : Part) (left more : List Frame) → frames ≡ others ++ frame ∷ [] → frame.parts.now ≡ part ∷ next.parts.now → next.kids.now ≡ frame.kids.now → HasLeft next others left → now ≡ left ++ more → Moves frames now
+  part_gone : (others : List Frame) (frame next : Frame) (part : Part) (left more : List Frame) → frames ≡ others ++ frame ∷ [] → frame.parts.now ≡ part ∷ next.parts.now → kids_seen next.kids ≡ (kids_seen frame.kids) → HasLeft next others left → now ≡ left ++ more → Moves frames now

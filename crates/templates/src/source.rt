@@ -1,6 +1,7 @@
 ghost use Rattle.std.specs.Prelude.{◌≡◌, ℕ, List, Some, take, drop};
 ghost use Rattle.node_data.specs.declared.kid.Kid.{Kid};
 ghost use Rattle.node_store.specs.Chunks.{store_of};
+ghost use Rattle.node_store.specs.Kids.{kids_seen};
 ghost use Rattle.templates.specs.Sources.{HasTemplate, kid_at, token_bytes};
 ghost use Rattle.translation_theory.specs.DeclaredNames.{number_in};
 ghost use Rattle.translation_theory.specs.TokenTexts.{bytes_of};
@@ -9,7 +10,7 @@ ghost use Rattle.translation_theory.specs.Translations.{template_in};
 use crate::frame::Frame;
 use grammar_data::Token;
 use name_table::Names;
-use node_store::{Kid, NodeRef, PackedKid, Store};
+use node_store::{Kid, Kids, NodeRef, Store};
 use sheet_reader::Sheet;
 use std::marker::Model;
 
@@ -36,11 +37,11 @@ impl<'a, 'b> Model for Source<'a, 'b> {
 }
 
 /// The kid at a place, counted from 1; where there is none, as a hidden one.
-pub fn kid_of(kids: &[PackedKid], place: u32) -> Kid
-    ensures { result ≡ kid_at kids.now place }
+pub fn kid_of(kids: Kids<'_>, place: u32) -> Kid
+    ensures { result ≡ kid_at (kids_seen kids.entry) place }
 {
     match kids.get(place.saturating_sub(1) as usize) {
-        Some(kid) => kid.kid(),
+        Some(kid) => kid,
         None => Kid::Hidden,
     }
 }
@@ -58,7 +59,7 @@ impl<'a, 'b> Source<'a, 'b> {
     pub fn frame(&self, node: NodeRef) -> Frame<'a>
         requires { HasTemplate self.now node }
         ensures { (rule : ℕ) (kids : List Kid) → store_of self.now.chunks node ≡ Some (rule, kids)
-            → (result.kids.now ≡ kids) × (result.parts.now ≡ template_in self.now.sheet rule) }
+            → (kids_seen result.kids ≡ kids) × (result.parts.now ≡ template_in self.now.sheet rule) }
     {
         Frame {
             parts: self.sheet.template(self.store.rule(node)),

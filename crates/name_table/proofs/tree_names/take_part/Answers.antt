@@ -4,6 +4,7 @@ use Rattle.std.specs.Option.{option_map}
 use Rattle.std.specs.Prelude.{OnOk, Result, Ok, Err, Some, slice_get}
 use Rattle.lr_base.specs.declared.errors.NoMemory.{NoMemory}
 use Rattle.node_store.specs.Chunks.{store_of}
+use Rattle.node_store.specs.Kids.{kids_seen}
 use Rattle.translation_theory.specs.DeclaredNames.{noted}
 use Rattle.name_table.proofs.PendingLemmas.{next_leaf_of}
 use Rattle.name_table.proofs.WayLemmas.{node_there, few_names, few_leaves, leaf_taken, rule_within, kid_each, node_taken, not_here}
@@ -45,7 +46,7 @@ declares-declared-requires c =
 pub push_parts-requires : goal.push_parts-requires
 push_parts-requires c =
     let (all, small, way) = c.requires.way in
-    kid_each c.args.sheet.now c.args.text.now (store_of c.args.store.now) all c.args.parts.now.items c.args.part c.args.names.now way c.in-Node.node c.rule-rule.result c.right-right.result.now c.kids.result.now (sym c.kid.ensures ∙ c.in-Node.is) c.rule-rule.ensures (subst (λ (g : Grammar). option_map (λ (r : Rule). r.1) (slice_get g.rules c.rule-rule.result) ≡ Some c.right-right.result.now) c.grammar.ensures c.right-right.ensures.right) c.kids.ensures
+    kid_each c.args.sheet.now c.args.text.now (store_of c.args.store.now) all c.args.parts.now.items c.args.part c.args.names.now way c.in-Node.node c.rule-rule.result c.right-right.result.now (kids_seen c.kids.result) (sym c.kid.ensures ∙ c.in-Node.is) c.rule-rule.ensures (subst (λ (g : Grammar). option_map (λ (r : Rule). r.1) (slice_get g.rules c.rule-rule.result) ≡ Some c.right-right.result.now) c.grammar.ensures c.right-right.ensures.right) c.kids.ensures
 
 pub right-right-requires : goal.right-right-requires
 right-right-requires c =
@@ -60,7 +61,7 @@ returns-in-Token c = λ all small way.
 pub returns-in-Node : goal.returns-in-Node
 returns-in-Node c = λ all small way.
     on_ok c.push_parts.result c.push_parts.ensures (λ are.
-    node_taken c.args.sheet.now c.args.text.now (store_of c.args.store.now) all c.args.parts.now.items c.args.part c.args.names.now way c.args.marking.now c.requires.settled c.in-Node.node c.rule-rule.result c.right-right.result.now c.kids.result.now c.declares-declared.result.now c.push_parts.new.parts.items (sym c.kid.ensures ∙ c.in-Node.is) c.rule-rule.ensures (subst (λ (g : Grammar). option_map (λ (r : Rule). r.1) (slice_get g.rules c.rule-rule.result) ≡ Some c.right-right.result.now) c.grammar.ensures c.right-right.ensures.right) c.kids.ensures c.declares-declared.ensures are)
+    node_taken c.args.sheet.now c.args.text.now (store_of c.args.store.now) all c.args.parts.now.items c.args.part c.args.names.now way c.args.marking.now c.requires.settled c.in-Node.node c.rule-rule.result c.right-right.result.now (kids_seen c.kids.result) c.declares-declared.result.now c.push_parts.new.parts.items (sym c.kid.ensures ∙ c.in-Node.is) c.rule-rule.ensures (subst (λ (g : Grammar). option_map (λ (r : Rule). r.1) (slice_get g.rules c.rule-rule.result) ≡ Some c.right-right.result.now) c.grammar.ensures c.right-right.ensures.right) c.kids.ensures c.declares-declared.ensures are)
 
 pub returns-in-Hidden : goal.returns-in-Hidden
 returns-in-Hidden c = λ all small way.

@@ -1,6 +1,4 @@
 use Rattle.std.proofs.Common.{set, sym, subst}
-use Rattle.std.proofs.lemmas.Option.{slice_get_within}
-use Rattle.node_data.specs.declared.kid.Kid.TheVariants.{Hidden}
 use Rattle.tree_theory.specs.Stores.{Ref}
 use Rattle.node_store.specs.Chunks.{IsHiddenAt, IsPlaceOf, SetsKid, StoresKid, store_of}
 use Rattle.node_store.proofs.ChunkListLemmas.{node_chunk}
@@ -20,7 +18,7 @@ set_kid-requires c =
       there.0,
       there.1,
       node_in_chunk c.self.inside.chunks.items c.args.self.now m c.place_of-place.result c.index_mut.result.now there.0 there.1 c.self.view_is there.2 c.place_of-place.ensures c.index_mut.ensures.value,
-      slice_get_within there.1 c.args.at Hidden there.3,
+      there.3,
     )
 
 pub invariant_of-self : goal.invariant_of-self

@@ -1,18 +1,19 @@
 use Rattle.std.proofs.Common.{List, [], None, ap, sym, subst, ◌∙◌, reverse}
 use Rattle.node_data.specs.declared.kid.Kid.TheVariants.{Token as TokenKid, Node as NodeKid}
 use Rattle.node_store.specs.Chunks.{store_of}
+use Rattle.node_store.specs.Kids.{kids_seen}
 use Rattle.node_store.specs.Walking.{Frame, Remains, TakesFirst}
 use Rattle.node_store.proofs.WalkingLemmas.{takes_root, takes_leave, takes_token, takes_enter, next_there, not_hidden, at_end}
 use Rattle.node_store.proofs.walk.Walk.next_step.Goals as goal
 
 pub invariant_of-self-in-Some : goal.invariant_of-self-in-Some
 invariant_of-self-in-Some c =
-    let it = takes_root (store_of c.self.inside.store.now) c.self.inside.root c.in-Some.root c.kids.result.now (reverse c.self.inside.frames.items) (reverse c.push.new.frames.items) c.in-Some.is c.kids.ensures c.in_ok-push.ensures.ok c.self.invariant.0 c.self.invariant.1 in
+    let it = takes_root (store_of c.self.inside.store.now) c.self.inside.root c.in-Some.root (kids_seen c.kids.result) (reverse c.self.inside.frames.items) (reverse c.push.new.frames.items) c.in-Some.is c.kids.ensures c.in_ok-push.ensures.ok c.self.invariant.0 c.self.invariant.1 in
     (it.others, it.remains)
 
 pub returns-in-Some-clause-step : goal.returns-in-Some-clause-step
 returns-in-Some-clause-step c steps remains =
-    let it = takes_root (store_of c.self.inside.store.now) c.self.inside.root c.in-Some.root c.kids.result.now (reverse c.self.inside.frames.items) (reverse c.push.new.frames.items) c.in-Some.is c.kids.ensures c.in_ok-push.ensures.ok steps (subst (λ w. Remains w steps) (sym c.self.view_is) remains) in
+    let it = takes_root (store_of c.self.inside.store.now) c.self.inside.root c.in-Some.root (kids_seen c.kids.result) (reverse c.self.inside.frames.items) (reverse c.push.new.frames.items) c.in-Some.is c.kids.ensures c.in_ok-push.ensures.ok steps (subst (λ w. Remains w steps) (sym c.self.view_is) remains) in
     (it.others, it.same, it.remains)
 
 pub invariant_of-self-in-End : goal.invariant_of-self-in-End
@@ -49,14 +50,14 @@ kids-requires-in-Node c =
 pub invariant_of-self-in-Node : goal.invariant_of-self-in-Node
 invariant_of-self-in-Node c =
     let same = ap (λ (l : List Frame). reverse l) (sym c.deref.ensures.value) ∙ c.in-Node.ensures.3 in
-    let it = takes_enter (store_of c.self.inside.store.now) c.self.inside.root (reverse c.self.inside.frames.items) (reverse c.enter.new.frames.items) c.in-Node.ensures.0 c.in-Node.node c.kids-in-Node.result.now c.in-Node.ensures.1 c.in-Node.ensures.2 c.in_default.is same c.kids-in-Node.ensures
+    let it = takes_enter (store_of c.self.inside.store.now) c.self.inside.root (reverse c.self.inside.frames.items) (reverse c.enter.new.frames.items) c.in-Node.ensures.0 c.in-Node.node (kids_seen c.kids-in-Node.result) c.in-Node.ensures.1 c.in-Node.ensures.2 c.in_default.is same c.kids-in-Node.ensures
     (c.in_ok-enter-in-Node.ensures.ok c.in-Node.ensures.0 (NodeKid c.in-Node.node) c.in-Node.ensures.1 c.in-Node.ensures.2 same) c.self.invariant.0 c.self.invariant.1 in
     (it.others, it.remains)
 
 pub returns-in_ok-enter-in-Node-clause-step : goal.returns-in_ok-enter-in-Node-clause-step
 returns-in_ok-enter-in-Node-clause-step c steps remains =
     let same = ap (λ (l : List Frame). reverse l) (sym c.deref.ensures.value) ∙ c.in-Node.ensures.3 in
-    let it = takes_enter (store_of c.self.inside.store.now) c.self.inside.root (reverse c.self.inside.frames.items) (reverse c.enter.new.frames.items) c.in-Node.ensures.0 c.in-Node.node c.kids-in-Node.result.now c.in-Node.ensures.1 c.in-Node.ensures.2 c.in_default.is same c.kids-in-Node.ensures
+    let it = takes_enter (store_of c.self.inside.store.now) c.self.inside.root (reverse c.self.inside.frames.items) (reverse c.enter.new.frames.items) c.in-Node.ensures.0 c.in-Node.node (kids_seen c.kids-in-Node.result) c.in-Node.ensures.1 c.in-Node.ensures.2 c.in_default.is same c.kids-in-Node.ensures
     (c.in_ok-enter-in-Node.ensures.ok c.in-Node.ensures.0 (NodeKid c.in-Node.node) c.in-Node.ensures.1 c.in-Node.ensures.2 same) steps (subst (λ w. Remains w steps) (sym c.self.view_is) remains) in
     (it.others, it.same, it.remains)
 
