@@ -1,1 +1,4 @@
 pub mod LookLemmas
+pub mod GrownLemmas
+pub mod QuestionLemmas
+pub mod CellLemmas

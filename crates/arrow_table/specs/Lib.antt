@@ -1,1 +1,4 @@
 pub mod Looks
+pub mod Codes
+pub mod Questions
+pub mod Cells

@@ -1,11 +1,17 @@
 ghost use Rattle.std.specs.Prelude.{◌≡◌, ◌<◌, ◌++◌, [], ◌∷◌, IfOk, IfSome, OnOk, OnErr, length};
-ghost use Rattle.map_theory.specs.Relations.{IsIdentityOf, IsRestricted, IsThenSymbol};
-ghost use Rattle.state_sets.specs.Within.{AreWithin, HasSymbol};
-ghost use Rattle.arrow_table.specs.Looks.{Grows, HasMap, map_at};
+ghost use Rattle.grammar_data.specs.declared.rule.Sym.TheVariants.{Name};
+ghost use Rattle.map_theory.specs.Relations.{IsThenSymbol};
+ghost use Rattle.state_sets.specs.Within.{AreWithin};
+ghost use Rattle.arrow_table.specs.Looks.{Grows, HasMap, IsLook, map_at};
+ghost use Rattle.arrow_table.specs.Questions.{IsAnswer, IsAsked};
 
 use crate::id::ArrowId;
 use crate::interning::{print_of, same_map};
-use lr_base::{NoMemory, Sym};
+use crate::known::Known;
+use crate::look::Look;
+use crate::memo::{Memo, Question};
+use crate::rows::{Rows, names_of};
+use lr_base::{NameId, NoMemory, TokenId};
 use lr_machine::Tables;
 use state_sets::Arrow;
 use std::alloc::Global;
@@ -19,19 +25,22 @@ pub struct Arrows<'a> {
     tables: &'a Tables,
     maps: Vec<Arrow>,
     prints: HashMap<u64, ArrowId>,
+    looks: Rows,
+    steps: Rows,
+    memo: Memo,
 }
 
 impl<'a> Model for Arrows<'a> {
-    ghost use Rattle.std.specs.Prelude.{List, All};
+    ghost use Rattle.std.specs.Prelude.{List};
     ghost use Rattle.table_data.specs.Tables.{Tables as TableParts};
     ghost use Rattle.map_theory.specs.Maps.{StateMap};
-    ghost use Rattle.state_sets.specs.Within.{AreWithin};
+    ghost use Rattle.arrow_table.specs.Cells.{AreRight};
 
     ghost Value = { TableParts × List StateMap };
 
     ghost view = { λ s. (s.tables.now, s.maps.items) };
 
-    ghost invariant = { λ s. All (AreWithin s.tables.now.states) s.maps.items };
+    ghost invariant = { λ s. AreRight s.tables.now s.maps.items s.looks s.steps s.memo };
 }
 
 impl<'a> Arrows<'a> {
@@ -43,6 +52,9 @@ impl<'a> Arrows<'a> {
             tables,
             maps: Vec::new(alloc),
             prints: HashMap::new(alloc),
+            looks: Rows::new(alloc, tables.end().0 as usize + 1),
+            steps: Rows::new(alloc, names_of(tables)),
+            memo: Memo::new(alloc),
         }
     }
 
@@ -99,7 +111,7 @@ impl<'a> Arrows<'a> {
     }
 
     /// The number of a map. One that stands is found by its print, and another is put last.
-    pub(crate) fn add(&mut self, arrow: Arrow) -> Result<ArrowId, NoMemory>
+    pub fn add(&mut self, arrow: Arrow) -> Result<ArrowId, NoMemory>
         requires { AreWithin self.old.0.states arrow }
         ensures tables { self.new.0 ≡ self.old.0 }
         ensures grows { Grows self.old.1 self.new.1 }
@@ -116,45 +128,81 @@ impl<'a> Arrows<'a> {
         Ok(id)
     }
 
-    /// Each target of a map followed along a symbol; a start is left out exactly where there is no step.
-    pub fn step(&mut self, alloc: Global, id: ArrowId, symbol: Sym) -> Result<ArrowId, NoMemory>
-        requires id { id < length self.old.1 }
-        requires symbol { HasSymbol self.old.0 symbol }
-        ensures tables { self.new.0 ≡ self.old.0 }
-        ensures grows { Grows self.old.1 self.new.1 }
-        ensures then { IfOk result (λ to. HasMap self.new.1 to
-            (IsThenSymbol self.old.0 symbol (map_at self.old.1 id))) }
+    /// What a look at a token says of a map, where it is known.
+    pub(crate) fn known_look(&self, id: ArrowId, token: TokenId) -> Option<Look>
+        ensures { IfSome result (IsLook self.now.0 token (map_at self.now.1 id) self.now.1) }
     {
-        let to = self.map(id).then_symbol(alloc, self.tables, symbol)?;
-        self.add(to)
+        let column = token.0 as usize;
+        if column >= self.looks.width() {
+            return None;
+        }
+        self.looks.get(id, column).look()
     }
 
-    /// Each start of a map, to itself.
-    pub fn identity(&mut self, alloc: Global, id: ArrowId) -> Result<ArrowId, NoMemory>
-        requires { id < length self.old.1 }
-        ensures tables { self.new.0 ≡ self.old.0 }
-        ensures grows { Grows self.old.1 self.new.1 }
-        ensures identity { IfOk result (λ to. HasMap self.new.1 to (IsIdentityOf (map_at self.old.1 id))) }
-    {
-        let to = self.map(id).identity(alloc)?;
-        self.add(to)
-    }
-
-    /// The pairs of a map whose starts are starts of another.
-    pub fn restrict(
+    /// Keeps what a look at a token says of a map.
+    pub(crate) fn note_look(
         &mut self,
-        alloc: Global,
         id: ArrowId,
-        keep: ArrowId,
-    ) -> Result<ArrowId, NoMemory>
+        token: TokenId,
+        look: &Look,
+    ) -> Result<(), NoMemory>
         requires id { id < length self.old.1 }
-        requires keep { keep < length self.old.1 }
-        ensures tables { self.new.0 ≡ self.old.0 }
-        ensures grows { Grows self.old.1 self.new.1 }
-        ensures restricted { IfOk result (λ to. HasMap self.new.1 to
-            (IsRestricted (map_at self.old.1 id) (map_at self.old.1 keep))) }
+        requires look { IsLook self.old.0 token (map_at self.old.1 id) self.old.1 look.now }
+        ensures { self.new ≡ self.old }
     {
-        let to = self.map(id).restrict(alloc, self.map(keep))?;
-        self.add(to)
+        let column = token.0 as usize;
+        if column >= self.looks.width() {
+            return Ok(());
+        }
+        self.looks.set(id, column, Known::by(*look))
+    }
+
+    /// The map that is one step on along a name, where it is known.
+    pub(crate) fn known_step(&self, id: ArrowId, name: NameId) -> Option<ArrowId>
+        ensures { IfSome result (λ to. HasMap self.now.1 to
+            (IsThenSymbol self.now.0 (Name name) (map_at self.now.1 id))) }
+    {
+        let column = name.0 as usize;
+        if column >= self.steps.width() {
+            return None;
+        }
+        match self.steps.get(id, column) {
+            Known::Step(to) => Some(to),
+            _ => None,
+        }
+    }
+
+    /// Keeps which map is one step on along a name.
+    pub(crate) fn note_step(
+        &mut self,
+        id: ArrowId,
+        name: NameId,
+        to: ArrowId,
+    ) -> Result<(), NoMemory>
+        requires id { id < length self.old.1 }
+        requires to { HasMap self.old.1 to (IsThenSymbol self.old.0 (Name name) (map_at self.old.1 id)) }
+        ensures { self.new ≡ self.old }
+    {
+        let column = name.0 as usize;
+        if column >= self.steps.width() {
+            return Ok(());
+        }
+        self.steps.set(id, column, Known::Step(to))
+    }
+
+    /// The answer to a question, where it is known.
+    pub(crate) fn known_answer(&self, question: &Question) -> Option<ArrowId>
+        ensures { IfSome result (IsAnswer self.now.0 self.now.1 self.now.1 question.now) }
+    {
+        self.memo.find(question)
+    }
+
+    /// Keeps the answer to a question.
+    pub(crate) fn note_answer(&mut self, question: Question, to: ArrowId) -> Result<(), NoMemory>
+        requires asked { IsAsked self.old.0 self.old.1 question }
+        requires to { IsAnswer self.old.0 self.old.1 self.old.1 question to }
+        ensures { self.new ≡ self.old }
+    {
+        self.memo.keep(question, to)
     }
 }

@@ -20,6 +20,13 @@ impl Model for ArrowId {
 
 impl ArrowId {
     /// The number.
+    pub(crate) fn number(self) -> u32
+        ensures { result ≡ self }
+    {
+        self.number
+    }
+
+    /// The number, as a place in a list.
     pub(crate) fn place(self) -> usize
         ensures { result ≡ self }
     {

@@ -2,11 +2,17 @@
 #![tactic(auto)]
 
 mod arrows;
+mod asking;
+mod cell;
 mod id;
 mod interning;
+mod known;
 mod look;
 mod looking;
+mod memo;
 mod opening;
+mod rows;
+mod stepping;
 
 pub use arrows::Arrows;
 pub use id::ArrowId;

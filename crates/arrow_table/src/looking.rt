@@ -27,8 +27,8 @@ fn some_errs(tables: &Tables, arrow: &Arrow, token: TokenId) -> bool
 }
 
 impl<'a> Arrows<'a> {
-    /// Looks at a token: what the targets of a map do on it. Where some err, the map of the others is put last.
-    pub fn look(&mut self, alloc: Global, id: ArrowId, token: TokenId) -> Result<Look, NoMemory>
+    /// What a look at a token says, by the tables.
+    fn find_look(&mut self, alloc: Global, id: ArrowId, token: TokenId) -> Result<Look, NoMemory>
         requires { id < length self.old.1 }
         ensures tables { self.new.0 ≡ self.old.0 }
         ensures grows { Grows self.old.1 self.new.1 }
@@ -40,9 +40,24 @@ impl<'a> Arrows<'a> {
             return Ok(Look::Died(self.add(alive)?));
         }
         match map.agree(self.tables(), token) {
-            Agree::Shift => Ok(Look::Shift(self.step(alloc, id, Sym::Token(token))?)),
+            Agree::Shift => Ok(Look::Shift(self.find_step(alloc, id, Sym::Token(token))?)),
             Agree::Reduce(rule) => Ok(Look::Reduce(rule)),
             Agree::NoneLeft | Agree::Several => Ok(Look::Stuck),
         }
+    }
+
+    /// Looks at a token: what the targets of a map do on it. Where some err, the map of the others is there then.
+    pub fn look(&mut self, alloc: Global, id: ArrowId, token: TokenId) -> Result<Look, NoMemory>
+        requires { id < length self.old.1 }
+        ensures tables { self.new.0 ≡ self.old.0 }
+        ensures grows { Grows self.old.1 self.new.1 }
+        ensures look { IfOk result (IsLook self.old.0 token (map_at self.old.1 id) self.new.1) }
+    {
+        if let Some(look) = self.known_look(id, token) {
+            return Ok(look);
+        }
+        let look = self.find_look(alloc, id, token)?;
+        self.note_look(id, token, &look)?;
+        Ok(look)
     }
 }

@@ -1,13 +1,13 @@
 ghost use Rattle.std.specs.Prelude.{◌≡◌, ℕ, ◌<◌, ◌≤◌, List, IfOk, length, take};
 ghost use Rattle.grammar_data.specs.declared.rule.Sym.{Sym as Symbol};
 ghost use Rattle.grammar_theory.specs.Rules.{IsRule};
-ghost use Rattle.map_theory.specs.Relations.{AreShiftStarts, IsBack, IsIdentityOf};
+ghost use Rattle.map_theory.specs.Relations.{AreShiftStarts, IsBack, IsIdentityOf, IsRestricted};
 ghost use Rattle.arrow_table.specs.Looks.{Grows, HasMap, map_at};
 
 use crate::arrows::Arrows;
 use crate::id::ArrowId;
+use crate::memo::Question;
 use lr_base::{NoMemory, RuleId, TokenId};
-use state_sets::shift_starts;
 use std::alloc::Global;
 
 /// The maps with which a piece is opened: its starts, each to itself, and the states over its first token.
@@ -26,10 +26,36 @@ impl<'a> Arrows<'a> {
         ensures starts { IfOk result (λ opening. HasMap self.new.1 opening.starts
             (IsIdentityOf (map_at self.new.1 opening.after))) }
     {
-        let shifts = shift_starts(alloc, self.tables(), token)?;
-        let after = self.add(shifts)?;
+        let after = self.ask(alloc, Question::Open(token))?;
         let starts = self.identity(alloc, after)?;
         Ok(Opening { starts, after })
+    }
+
+    /// Each start of a map, to itself.
+    pub fn identity(&mut self, alloc: Global, id: ArrowId) -> Result<ArrowId, NoMemory>
+        requires { id < length self.old.1 }
+        ensures tables { self.new.0 ≡ self.old.0 }
+        ensures grows { Grows self.old.1 self.new.1 }
+        ensures identity { IfOk result (λ to. HasMap self.new.1 to (IsIdentityOf (map_at self.old.1 id))) }
+    {
+        self.ask(alloc, Question::Identity(id))
+    }
+
+    /// The pairs of a map whose starts are starts of another.
+    pub fn restrict(
+        &mut self,
+        alloc: Global,
+        id: ArrowId,
+        keep: ArrowId,
+    ) -> Result<ArrowId, NoMemory>
+        requires id { id < length self.old.1 }
+        requires keep { keep < length self.old.1 }
+        ensures tables { self.new.0 ≡ self.old.0 }
+        ensures grows { Grows self.old.1 self.new.1 }
+        ensures restricted { IfOk result (λ to. HasMap self.new.1 to
+            (IsRestricted (map_at self.old.1 id) (map_at self.old.1 keep))) }
+    {
+        self.ask(alloc, Question::Restrict(id, keep))
     }
 
     /// The states from which the first symbols of a rule lead to a start of a map, each to that start.
@@ -48,8 +74,6 @@ impl<'a> Arrows<'a> {
         ensures back { IfOk result (λ to. (n : ℕ) (right : List Symbol) → IsRule self.old.0.rules rule n right
             → HasMap self.new.1 to (IsBack self.old.0 (take hidden right) (map_at self.old.1 id))) }
     {
-        let symbols = &self.tables().right(rule)[..hidden as usize];
-        let starts = self.map(id).back(alloc, self.tables(), symbols)?;
-        self.add(starts)
+        self.ask(alloc, Question::Back(id, rule, hidden))
     }
 }

@@ -159,7 +159,7 @@ impl Arrow {
     }
 
     /// The map of what a function makes of the targets, by the list of its values at the target of each class.
-    fn along(&self, alloc: Global, images: &[Option<StateId>]) -> Result<Arrow, NoMemory>
+    pub fn along(&self, alloc: Global, images: &[Option<StateId>]) -> Result<Arrow, NoMemory>
         requires { length images.now ≡ length (targets_of self.now) }
         ensures { IfOk result (λ arrow. (f : ℕ → Option ℕ) → images.now ≡ map f (targets_of self.now)
             → arrow ≡ followed (λ q p. f p) self.now) }

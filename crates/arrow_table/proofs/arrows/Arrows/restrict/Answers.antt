@@ -1,4 +1,0 @@
-use Rattle.arrow_table.proofs.arrows.Arrows.restrict.Goals as goal
-
-pub add-requires : goal.add-requires
-add-requires c = c.in_ok-to.ensures.within c.args.self.now.0.states c.map.ensures.within
