@@ -1,5 +1,5 @@
 -- Pieces that are the same without their maps.
-use Rattle.std.proofs.Common.{◌≡◌, ℕ, List, [], ◌∷◌, refl, sym, ap, ap₂, ◌∙◌}
+use Rattle.std.proofs.Common.{◌≡◌, List, [], ◌∷◌, refl, sym, ap, ap₂}
 use Rattle.grammar_data.specs.declared.token.Token.{Token as TextToken}
 use Rattle.tree_theory.specs.Stores.{Store}
 use Rattle.tree_theory.specs.Walks.{Step}

@@ -1,7 +1,6 @@
 -- Pieces in flat lists: a head for each closed piece, with how many floors and kids it has; the floors of all of them, and
 -- the kids, one piece's after the other's, and then those of a piece that is still open.
-use Rattle.std.specs.Prelude.{◌≡◌, ℕ, ◌+◌, ◌≤◌, List, [], ◌∷◌, take, drop, length}
-use Rattle.grammar_data.specs.declared.token.Token.{Token as TextToken}
+use Rattle.std.specs.Prelude.{◌≡◌, ℕ, ◌+◌, ◌≤◌, List, [], ◌∷◌, take, drop, length, map, slice_index_or}
 use Rattle.node_data.specs.declared.kid.Kid.{Kid}
 use Rattle.piece_theory.specs.Pieces.{Floor}
 use Rattle.piece_blocks.specs.declared.head.Head.{Head}
@@ -22,6 +21,15 @@ abbrev pub kid_total : List Head → ℕ
 kid_total [] = 0
 kid_total (head ∷ heads) = head.kids + kid_total heads
 
+-- where the floors and the kids of each closed piece begin, behind those of the pieces before it
+abbrev pub floor_starts : ℕ → List Head → List ℕ
+floor_starts from [] = []
+floor_starts from (head ∷ heads) = from ∷ floor_starts (from + head.floors) heads
+
+abbrev pub kid_starts : ℕ → List Head → List ℕ
+kid_starts from [] = []
+kid_starts from (head ∷ heads) = from ∷ kid_starts (from + head.kids) heads
+
 -- the pieces that the heads cut from the lists
 abbrev pub cut_pieces : List Head → List Floor → List Kid → List Bare
 cut_pieces [] floors kids = []
@@ -33,3 +41,13 @@ pub record IsBlock (heads : List Head) (floors : List Floor) (kids : List Kid) (
   pub kids_are : closed_kids ≡ kid_total heads
   pub floors_fit : closed_floors ≤ length floors
   pub kids_fit : closed_kids ≤ length kids
+  pub floors_begin : map (λ (head : Head). head.floors_from) heads ≡ floor_starts 0 heads
+  pub kids_begin : map (λ (head : Head). head.kids_from) heads ≡ kid_starts 0 heads
+
+-- a piece with nothing
+abbrev pub no_piece : Bare
+no_piece = record { first = record { id = 0; place = record { line = 0; start = 0; len = 0 } }; count = 0; floors = []; kids = [] }
+
+-- the closed piece with this number, from 0
+abbrev pub piece_at : List Bare → ℕ → Bare
+piece_at pieces index = slice_index_or pieces index no_piece

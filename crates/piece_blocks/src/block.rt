@@ -1,9 +1,10 @@
 ghost use Rattle.std.specs.Prelude.{◌≡◌, ℕ, ◌+◌, ◌-◌, ◌<◌, ◌≤◌, List, [], ◌∷◌, ◌++◌, length, take, drop, replicate, IfOk, OnOk, OnErr};
 ghost use Rattle.node_data.specs.declared.kid.Kid.TheVariants.{Hidden};
 ghost use Rattle.node_store.specs.Chunks.{AddsNode, HasChunk, StoresNode, numbers_in, node_count_in, store_of};
+ghost use Rattle.piece_blocks.specs.Blocks.{piece_at};
 
 use crate::floor::Floor;
-use crate::head::Head;
+use crate::head::{Extent, Head};
 use grammar_data::{RuleId, Token};
 use lr_base::NoMemory;
 use node_data::{Kid, NodeRef};
@@ -60,11 +61,63 @@ impl Block {
         self.heads.len()
     }
 
+    /// The first token of a closed piece, by the piece's number, from 0.
+    pub fn first(&self, index: usize) -> Token
+        requires { index < length self.now.closed }
+        ensures { result ≡ (piece_at self.now.closed index).first }
+    {
+        self.heads[index].first
+    }
+
+    /// How many tokens a closed piece has.
+    pub fn tokens(&self, index: usize) -> u32
+        requires { index < length self.now.closed }
+        ensures { result ≡ (piece_at self.now.closed index).count }
+    {
+        self.heads[index].count
+    }
+
+    /// The floors of a closed piece, the first one first.
+    pub fn floors(&self, index: usize) -> &[Floor]
+        requires { index < length self.now.closed }
+        ensures { result.now ≡ (piece_at self.now.closed index).floors }
+    {
+        let head = self.heads[index];
+        part(&self.floors, head.floors_from, head.floors)
+    }
+
+    /// The kids of a closed piece's entries, the lowest first.
+    pub fn kids(&self, index: usize) -> &[PackedKid]
+        requires { index < length self.now.closed }
+        ensures { result.now ≡ (piece_at self.now.closed index).kids }
+    {
+        let head = self.heads[index];
+        part(&self.kids, head.kids_from, head.kids)
+    }
+
     /// How many kids the open piece has.
     pub fn open_kids(&self) -> usize
         ensures { result ≡ length self.now.kids }
     {
         self.kids.len() - self.closed_kids
+    }
+
+    /// The kids of the open piece.
+    pub fn open_list(&self) -> &[PackedKid]
+        ensures { result.now ≡ self.now.kids }
+    {
+        &self.kids[self.closed_kids..]
+    }
+
+    /// The open piece loses its last kids, so many.
+    pub fn drop_kids(&mut self, count: usize)
+        requires { count ≤ length self.old.kids }
+        ensures closed { self.new.closed ≡ self.old.closed }
+        ensures floors { self.new.floors ≡ self.old.floors }
+        ensures kids { self.new.kids ≡ take (length self.old.kids - count) self.old.kids }
+    {
+        let rest = self.kids.len() - count;
+        self.kids.truncate(rest);
     }
 
     /// The open piece gets one kid more. A refused call leaves the block as it was.
@@ -155,12 +208,43 @@ impl Block {
         self.heads.push(Head {
             first,
             count,
+            floors_from: self.closed_floors,
             floors,
+            kids_from: self.closed_kids,
             kids,
         })?;
         self.closed_floors += floors;
         self.closed_kids += kids;
         Ok(())
+    }
+
+    /// Opens the last closed piece again: its floors and kids are those of the open piece, in place of what that had.
+    pub fn reopen(&mut self) -> Extent
+        requires { 0 < length self.old.closed }
+        ensures { self.old.closed ≡ self.new.closed
+            ++ record { first = result.first; count = result.count; floors = self.new.floors; kids = self.new.kids } ∷ [] }
+    {
+        let last = self.heads.len() - 1;
+        let head = self.heads[last];
+        self.floors.truncate(self.closed_floors);
+        self.kids.truncate(self.closed_kids);
+        self.heads.truncate(last);
+        self.closed_floors = head.floors_from;
+        self.closed_kids = head.kids_from;
+        Extent {
+            first: head.first,
+            count: head.count,
+        }
+    }
+
+    /// Takes the last floor off those of the open piece.
+    pub fn pop_floor(&mut self) -> Floor
+        requires { 0 < length self.old.floors }
+        ensures closed { self.new.closed ≡ self.old.closed }
+        ensures floors { self.old.floors ≡ self.new.floors ++ result ∷ [] }
+        ensures kids { self.new.kids ≡ self.old.kids }
+    {
+        self.floors.pop().unwrap()
     }
 }
 
@@ -171,4 +255,12 @@ fn with_hidden(alloc: Global, hidden: u32, kids: &[PackedKid]) -> Result<Vec<Pac
     let mut all = vec![in alloc; PackedKid::of(Kid::Hidden); hidden as usize]?;
     all.extend_from_slice(kids)?;
     Ok(all)
+}
+
+/// So many items of a list, from a place on.
+fn part<T>(items: &[T], from: usize, count: usize) -> &[T]
+    requires { from + count ≤ length items.now }
+    ensures { result.now ≡ take count (drop from items.now) }
+{
+    &items[from..from + count]
 }

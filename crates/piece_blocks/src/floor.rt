@@ -1,3 +1,6 @@
+ghost use Rattle.std.specs.Prelude.{◌≡◌};
+ghost use Rattle.piece_theory.specs.Pieces.{fault_at};
+
 use grammar_data::{RuleId, StateId, Token};
 use node_data::NodeRef;
 use state_sets::Arrow;
@@ -60,8 +63,6 @@ impl Model for Floor {
 }
 
 impl Floor {
-    ghost use Rattle.std.specs.Prelude.{◌≡◌};
-
     /// A floor.
     pub fn new(opened: Option<Opened>, starts: Arrow, faults: Vec<StartFault>) -> Floor
         ensures { result ≡ record { opened = opened; starts = starts; faults = faults.items } }
@@ -87,10 +88,36 @@ impl Floor {
         &self.starts
     }
 
+    /// The fault of a start; `None` exactly where it has none.
+    pub fn fault(&self, start: StateId) -> Option<StartFault>
+        ensures { result ≡ fault_at self.now.faults start }
+    {
+        first_fault(&self.faults, start)
+    }
+
+    /// The parts of a floor: what opened it, its alive starts, and the starts that err.
+    pub fn into_parts(self) -> (Option<Opened>, Arrow, Vec<StartFault>)
+        ensures { self ≡ record { opened = result.0; starts = result.1; faults = result.2.items } }
+    {
+        (self.opened, self.starts, self.faults)
+    }
+
     /// The starts that err.
     pub fn faults(&self) -> &[StartFault]
         ensures { result.now ≡ self.now.faults }
     {
         &self.faults
     }
+}
+
+/// The first fault of a start.
+fn first_fault(faults: &[StartFault], start: StateId) -> Option<StartFault>
+    ensures { result ≡ fault_at faults.now start }
+{
+    for fault in faults {
+        if fault.start == start {
+            return Some(*fault);
+        }
+    }
+    None
 }

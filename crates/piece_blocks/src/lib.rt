@@ -9,4 +9,4 @@ mod head;
 
 pub use block::Block;
 pub use floor::{Floor, Opened, StartFault};
-pub use head::Head;
+pub use head::{Extent, Head};

@@ -20,7 +20,7 @@ use Rattle.segment_laws.proofs.StepLemmas.{shifts_parsing_law}
 use Rattle.arrow_table.specs.Looks.{Grows, HasMap, map_at}
 use Rattle.segment_parser.specs.declared.leaf.Leaf.{Leaf}
 use Rattle.segment_parser.specs.Working.{held_of, last_id, last_of, AreThere}
-use Rattle.segment_parser.specs.Standing.{last_in, piece_in, HasMaps, IsAt}
+use Rattle.segment_parser.specs.Standing.{last_in, piece_in, HasMaps, IsAt, SameButEntries}
 use Rattle.segment_parser.proofs.HeldLemmas.{held_grows, held_push, stays_at, has_grows, LastHeld, held_last, last_pushed}
 
 -- ---- what is the same by another name
@@ -102,24 +102,14 @@ last_map {maps = maps} at =
 
 -- ---- a shift
 
--- all but the entries and the count is the same
-pub record IsSameBut (s after : Leaf) : Type 0 where
-  pub floors : after.block.floors ≡ s.block.floors
-  pub closed : after.block.closed ≡ s.block.closed
-  pub faults : after.faults.items ≡ s.faults.items
-  pub opened : after.opened ≡ s.opened
-  pub starts : after.starts ≡ s.starts
-  pub own : after.own ≡ s.own
-  pub first : after.first ≡ s.first
-
-pub last_same : (maps : List StateMap) (s after : Leaf) → IsSameBut s after → last_in maps after ≡ last_in maps s
+pub last_same : (maps : List StateMap) (s after : Leaf) → SameButEntries s after → last_in maps after ≡ last_in maps s
 last_same maps s after same = λ i. last_of maps (same.opened i) (same.starts i) (same.faults i)
 
-pub floors_same : (maps : List StateMap) (s after : Leaf) → IsSameBut s after → (piece_in maps after).floors ≡ (piece_in maps s).floors
+pub floors_same : (maps : List StateMap) (s after : Leaf) → SameButEntries s after → (piece_in maps after).floors ≡ (piece_in maps s).floors
 floors_same maps s after same = λ i. same.floors i ++ last_same maps s after same i ∷ []
 
 -- one entry more, whose map is there
-pub has_pushed : (maps : List StateMap) (s after : Leaf) (kid : Kid) (to : ℕ) → IsSameBut s after → after.block.kids ≡ s.block.kids ++ kid ∷ [] → after.ids.items ≡ s.ids.items ++ to ∷ [] → to < length maps → HasMaps maps s → HasMaps maps after
+pub has_pushed : (maps : List StateMap) (s after : Leaf) (kid : Kid) (to : ℕ) → SameButEntries s after → after.block.kids ≡ s.block.kids ++ kid ∷ [] → after.ids.items ≡ s.ids.items ++ to ∷ [] → to < length maps → HasMaps maps s → HasMaps maps after
 has_pushed maps s after kid to same kids ids inside has =
     let kid_count = ap length kids ∙ length-append s.block.kids (kid ∷ []) in
     let id_count = ap length ids ∙ length-append s.ids.items (to ∷ []) in
@@ -132,7 +122,7 @@ has_pushed maps s after kid to same kids ids inside has =
     }
 
 pub shift_at : (t : Tables) (store : Store) (maps : List StateMap) (s after : Leaf) (tokens w rest : List TextToken) (token : TextToken) (to : ℕ) → IsAt t store maps s tokens w (token ∷ rest) (token ∷ []) → NoneErrs t token.id (map_at maps (last_id s.ids.items)) → AllShift t token.id (map_at maps (last_id s.ids.items)) → HasMap maps to (IsThenSymbol t (Token token.id) (map_at maps (last_id s.ids.items)))
-    → IsSameBut s after → after.stale ≡ s.stale → after.count ≡ s.count + 1 → after.block.kids ≡ s.block.kids ++ TokenKid token ∷ [] → after.ids.items ≡ s.ids.items ++ to ∷ []
+    → SameButEntries s after → after.stale ≡ s.stale → after.count ≡ s.count + 1 → after.block.kids ≡ s.block.kids ++ TokenKid token ∷ [] → after.ids.items ≡ s.ids.items ++ to ∷ []
     → IsAt t store maps after tokens (w ++ token ∷ []) rest [] × HasStart t (piece_in maps after) (w ++ token ∷ []) (last_in maps after)
 shift_at t store maps s after tokens w rest token to at none all has same stale count kids ids =
     let map = last_map at in

@@ -22,13 +22,13 @@ use Rattle.node_store.specs.Chunks.{StoresNode}
 use Rattle.arrow_table.specs.Looks.{Grows, HasMap, map_at}
 use Rattle.segment_parser.specs.declared.leaf.Leaf.{Leaf}
 use Rattle.segment_parser.specs.Working.{last_id, AreThere, IsFreshAt, was_fresh, made_fresh}
-use Rattle.segment_parser.specs.Standing.{last_in, piece_in, IsAt}
+use Rattle.segment_parser.specs.Standing.{last_in, piece_in, IsAt, SameButEntries}
 use Rattle.segment_parser.proofs.HeldLemmas.{stays_at, has_grows, grows_then}
-use Rattle.segment_parser.proofs.AtLemmas.{IsSameBut, at_grows, there_grows, last_at, last_grows}
+use Rattle.segment_parser.proofs.AtLemmas.{at_grows, there_grows, last_at, last_grows}
 use Rattle.segment_parser.proofs.TakeLemmas.{takes_some_at, there_front}
 use Rattle.segment_parser.proofs.WholeLemmas.{takes_all_at, floor_at}
 
-pub same_then : {s mid after : Leaf} → IsSameBut s mid → IsSameBut mid after → IsSameBut s after
+pub same_then : {s mid after : Leaf} → SameButEntries s mid → SameButEntries mid after → SameButEntries s after
 same_then one two = record {
   floors = two.floors ∙ one.floors;
   closed = two.closed ∙ one.closed;
@@ -81,9 +81,9 @@ fresh_as {final} {starts} {starts1} {stale} {stale1} {stale2} {stale3} {depth} {
 
 -- a reduction that takes fewer entries than there are
 pub reduce_some_at : (t : Tables) → IsLawful t → (store new : Store) (maps mid final : List StateMap) (s s1 s2 after : Leaf) (r n count : ℕ) (right : List Sym) (m : Ref) (to : ℕ) → IsRule t.rules r n right → count ≡ length right → count < length s.ids.items
-    → IsSameBut s s1 → s1.stale ≡ s.stale → s1.count ≡ s.count → s1.block.kids ≡ take (length s.ids.items - count) s.block.kids → s1.ids.items ≡ take (length s.ids.items - count) s.ids.items → StoresNode store new r (drop (length s.ids.items - count) s.block.kids) m
-    → Grows maps mid → IsFreshAt maps mid s1.starts s1.stale s2.stale (length s1.ids.items - 1) s1.ids.items s2.ids.items → IsSameBut s1 s2 → s2.block.kids ≡ s1.block.kids → s2.count ≡ s1.count
-    → Grows mid final → IsSameBut s2 after → after.stale ≡ s2.stale → after.count ≡ s2.count → after.block.kids ≡ s2.block.kids ++ NodeKid m ∷ [] → after.ids.items ≡ s2.ids.items ++ to ∷ [] → HasMap final to (IsThenSymbol t (Name n) (map_at mid (last_id s2.ids.items)))
+    → SameButEntries s s1 → s1.stale ≡ s.stale → s1.count ≡ s.count → s1.block.kids ≡ take (length s.ids.items - count) s.block.kids → s1.ids.items ≡ take (length s.ids.items - count) s.ids.items → StoresNode store new r (drop (length s.ids.items - count) s.block.kids) m
+    → Grows maps mid → IsFreshAt maps mid s1.starts s1.stale s2.stale (length s1.ids.items - 1) s1.ids.items s2.ids.items → SameButEntries s1 s2 → s2.block.kids ≡ s1.block.kids → s2.count ≡ s1.count
+    → Grows mid final → SameButEntries s2 after → after.stale ≡ s2.stale → after.count ≡ s2.count → after.block.kids ≡ s2.block.kids ++ NodeKid m ∷ [] → after.ids.items ≡ s2.ids.items ++ to ∷ [] → HasMap final to (IsThenSymbol t (Name n) (map_at mid (last_id s2.ids.items)))
     → (tokens w rest : List TextToken) (token : TextToken) → IsAt t store maps s tokens w rest (token ∷ []) → NoneErrs t token.id (map_at maps (last_id s.ids.items)) → AllReduce t token.id r (map_at maps (last_id s.ids.items))
     → IsAt t new final after tokens w rest (token ∷ []) × HasStart t (piece_in final after) w (last_in final after)
 reduce_some_at t lawful store new maps mid final s s1 s2 after r n count right m to rule sized less same1 stale1 count1 kids1 ids1 node grows1 fresh same2 kids2 count2 grows2 same3 stale3 count3 kids3 ids3 goes tokens w rest token at none all =
@@ -116,7 +116,7 @@ reduce_some_at t lawful store new maps mid final s s1 s2 after r n count right m
 
 -- a reduction that takes all entries
 pub reduce_all_at : (t : Tables) → IsLawful t → (store new : Store) (maps final : List StateMap) (s after : Leaf) (r n k : ℕ) (right : List Sym) (m : Ref) (to : ℕ) → IsRule t.rules r n right → length s.ids.items ≡ length right → k ≡ 0
-    → IsSameBut s after → after.stale ≡ 0 → after.count ≡ s.count → after.block.kids ≡ take k s.block.kids ++ NodeKid m ∷ [] → after.ids.items ≡ take k s.ids.items ++ to ∷ [] → StoresNode store new r (drop k s.block.kids) m
+    → SameButEntries s after → after.stale ≡ 0 → after.count ≡ s.count → after.block.kids ≡ take k s.block.kids ++ NodeKid m ∷ [] → after.ids.items ≡ take k s.ids.items ++ to ∷ [] → StoresNode store new r (drop k s.block.kids) m
     → Grows maps final → HasMap final to (IsThenSymbol t (Name n) (map_at maps s.own))
     → (tokens w rest : List TextToken) (token : TextToken) → IsAt t store maps s tokens w rest (token ∷ []) → NoneErrs t token.id (map_at maps (last_id s.ids.items)) → AllReduce t token.id r (map_at maps (last_id s.ids.items))
     → IsAt t new final after tokens w rest (token ∷ []) × HasStart t (piece_in final after) w (last_in final after)
@@ -153,7 +153,7 @@ left_is t here r n m right rule same left = same_left right (sym (ap (λ o. opti
 pub reduce_more_at : (t : Tables) → IsLawful t → LeadFromStates t → (store new : Store) (maps mid final : List StateMap) (s s1 after : Leaf) (r n hidden : ℕ) (right : List Sym) (m : Ref) (to : ℕ) → IsRule t.rules r n right → 0 < hidden → hidden + length s.ids.items ≡ length right
     → s1.block.floors ≡ s.block.floors ++ last_in maps s ∷ [] → s1.block.closed ≡ s.block.closed → s1.faults.items ≡ [] → s1.opened ≡ Some (record { rule = r; hidden = hidden; node = m }) → s1.first ≡ s.first → s1.count ≡ s.count → s1.block.kids ≡ [] → s1.ids.items ≡ [] → s1.stale ≡ 0
     → StoresNode store new r (replicate hidden Hidden ++ s.block.kids) m → Grows maps mid → HasMap mid s1.starts (IsBack t (take hidden right) (map_at maps s.starts)) → HasMap mid s1.own (IsIdentityOf (map_at mid s1.starts))
-    → IsSameBut s1 after → after.stale ≡ s1.stale → after.count ≡ s1.count → after.block.kids ≡ s1.block.kids ++ NodeKid m ∷ [] → after.ids.items ≡ s1.ids.items ++ to ∷ [] → Grows mid final → HasMap final to (IsThenSymbol t (Name n) (map_at mid s1.own))
+    → SameButEntries s1 after → after.stale ≡ s1.stale → after.count ≡ s1.count → after.block.kids ≡ s1.block.kids ++ NodeKid m ∷ [] → after.ids.items ≡ s1.ids.items ++ to ∷ [] → Grows mid final → HasMap final to (IsThenSymbol t (Name n) (map_at mid s1.own))
     → (tokens w rest : List TextToken) (token : TextToken) → IsAt t store maps s tokens w rest (token ∷ []) → NoneErrs t token.id (map_at maps (last_id s.ids.items)) → AllReduce t token.id r (map_at maps (last_id s.ids.items))
     → IsAt t new final after tokens w rest (token ∷ []) × HasStart t (piece_in final after) w (last_in final after)
 reduce_more_at t lawful lead store new maps mid final s s1 after r n hidden right m to rule some sized floors closed faults opened first count kids ids stale node grows1 back own same stale2 count2 kids2 ids2 grows2 goes tokens w rest token at none all =

@@ -22,10 +22,10 @@ use Rattle.node_data.specs.declared.kid.Kid.TheVariants.{Token as TokenKid}
 use Rattle.arrow_table.specs.Looks.{Grows, HasMap, map_at}
 use Rattle.segment_parser.specs.declared.leaf.Leaf.{Leaf}
 use Rattle.segment_parser.specs.Working.{last_id}
-use Rattle.segment_parser.specs.Standing.{last_in, piece_in, IsAt}
+use Rattle.segment_parser.specs.Standing.{last_in, piece_in, IsAt, SameButEntries}
 use Rattle.segment_parser.specs.Settling.{IsBetween, IsLooking, IsStuckOn}
 use Rattle.segment_parser.proofs.HeldLemmas.{stays_at}
-use Rattle.segment_parser.proofs.AtLemmas.{IsSameBut, at_grows, last_at, last_grows, piece_grows, start_as, shift_at}
+use Rattle.segment_parser.proofs.AtLemmas.{at_grows, last_at, last_grows, piece_grows, start_as, shift_at}
 use Rattle.segment_parser.proofs.LookLemmas.{HasDied, die_at}
 use Rattle.segment_parser.proofs.ReduceLemmas.{last_inside}
 
@@ -67,7 +67,7 @@ died_looking t lawful lead store maps new s after tokens index token alive looki
     record { w = looking.w; here = looking.here; at = next.0; start = next.1 }
 
 pub shifted_between : (t : Tables) (store : Store) (maps : List StateMap) (s after : Leaf) (tokens : List TextToken) (index : ℕ) (token : TextToken) (to : ℕ) → IsLooking t store maps s tokens index token → NoneErrs t token.id (map_at maps (last_id s.ids.items)) → AllShift t token.id (map_at maps (last_id s.ids.items)) → HasMap maps to (IsThenSymbol t (Token token.id) (map_at maps (last_id s.ids.items)))
-    → IsSameBut s after → after.stale ≡ s.stale → after.count ≡ s.count + 1 → after.block.kids ≡ s.block.kids ++ TokenKid token ∷ [] → after.ids.items ≡ s.ids.items ++ to ∷ [] → IsBetween t store maps after tokens (index + 1)
+    → SameButEntries s after → after.stale ≡ s.stale → after.count ≡ s.count + 1 → after.block.kids ≡ s.block.kids ++ TokenKid token ∷ [] → after.ids.items ≡ s.ids.items ++ to ∷ [] → IsBetween t store maps after tokens (index + 1)
 shifted_between t store maps s after tokens index token to looking none all has same stale count kids ids =
     let next = shift_at t store maps s after tokens looking.w (drop (index + 1) tokens) token to looking.at none all has same stale count kids ids in
     record { w = looking.w ++ token ∷ []; at = next.0; start = next.1 }
@@ -134,7 +134,7 @@ reduced_step t t1 same store store1 maps mid new s after tokens index token r gr
     subst (λ x. IsLooking x store1 new after tokens index token) same done
 
 pub shifted_step : (t : Tables) (store : Store) (maps mid : List StateMap) (s after : Leaf) (tokens : List TextToken) (index : ℕ) (token : TextToken) (to : ℕ) → Grows maps mid → NoneErrs t token.id (map_at maps (last_id s.ids.items)) → AllShift t token.id (map_at maps (last_id s.ids.items)) → HasMap mid to (IsThenSymbol t (Token token.id) (map_at maps (last_id s.ids.items)))
-    → IsSameBut s after → after.stale ≡ s.stale → after.count ≡ s.count + 1 → after.block.kids ≡ s.block.kids ++ TokenKid token ∷ [] → after.ids.items ≡ s.ids.items ++ to ∷ []
+    → SameButEntries s after → after.stale ≡ s.stale → after.count ≡ s.count + 1 → after.block.kids ≡ s.block.kids ++ TokenKid token ∷ [] → after.ids.items ≡ s.ids.items ++ to ∷ []
     → IsLooking t store maps s tokens index token → IsBetween t store mid after tokens (index + 1)
 shifted_step t store maps mid s after tokens index token to grows none all has same stale count kids ids looking =
     let top = sym (top_stays mid grows looking.at) in

@@ -25,9 +25,9 @@ use Rattle.node_store.specs.Chunks.{StoresNode}
 use Rattle.arrow_table.specs.Looks.{HasMap, map_at}
 use Rattle.segment_parser.specs.declared.leaf.Leaf.{Leaf}
 use Rattle.segment_parser.specs.Working.{held_of, last_id, AreThere, IsFreshAt, was_fresh, made_fresh}
-use Rattle.segment_parser.specs.Standing.{last_in, piece_in, IsAt}
+use Rattle.segment_parser.specs.Standing.{last_in, piece_in, IsAt, SameButEntries}
 use Rattle.segment_parser.proofs.HeldLemmas.{held_push, held_parts, held_kids, front_there, last_there, length_held, last_pushed}
-use Rattle.segment_parser.proofs.AtLemmas.{IsSameBut, last_same, floors_same, leaf_as, start_as, last_map}
+use Rattle.segment_parser.proofs.AtLemmas.{last_same, floors_same, leaf_as, start_as, last_map}
 use Rattle.segment_parser.proofs.LookLemmas.{set_last}
 
 -- ---- entries cut before the last ones, with one left on top
@@ -63,7 +63,7 @@ cut_at xs n some inside = cut_pushed xs n some inside (all_pushed (take n xs))
 
 -- the code has taken entries, made the last one fresh, and put the node
 pub record HasTaken (t : Tables) (store new : Store) (maps : List StateMap) (s after : Leaf) (r n count : ℕ) (m : Ref) : Type 0 where
-  pub same : IsSameBut s after
+  pub same : SameButEntries s after
   pub tokens : after.count ≡ s.count
   pub node : StoresNode store new r (drop (length s.ids.items - count) s.block.kids) m
   pub kids : after.block.kids ≡ take (length s.ids.items - count) s.block.kids ++ NodeKid m ∷ []

@@ -26,9 +26,9 @@ use Rattle.node_store.specs.Chunks.{StoresNode}
 use Rattle.arrow_table.specs.Looks.{HasMap, map_at}
 use Rattle.segment_parser.specs.declared.leaf.Leaf.{Leaf}
 use Rattle.segment_parser.specs.Working.{held_of, last_id, AreThere}
-use Rattle.segment_parser.specs.Standing.{last_in, piece_in, IsAt}
+use Rattle.segment_parser.specs.Standing.{last_in, piece_in, IsAt, SameButEntries}
 use Rattle.segment_parser.proofs.HeldLemmas.{held_kids, length_held}
-use Rattle.segment_parser.proofs.AtLemmas.{IsSameBut, last_same, floors_same, leaf_as, start_as, last_map}
+use Rattle.segment_parser.proofs.AtLemmas.{last_same, floors_same, leaf_as, start_as, last_map}
 use Rattle.segment_parser.proofs.TakeLemmas.{puts_node}
 
 -- along a symbol from the starts of a map themselves
@@ -48,7 +48,7 @@ one_there maps id inside = All-cons {X = ℕ} (λ n. n < length maps) id [] insi
 -- ---- all entries
 
 pub record HasTakenAll (t : Tables) (store new : Store) (maps : List StateMap) (s after : Leaf) (r n : ℕ) (m : Ref) : Type 0 where
-  pub same : IsSameBut s after
+  pub same : SameButEntries s after
   pub tokens : after.count ≡ s.count
   pub node : StoresNode store new r s.block.kids m
   pub kids : after.block.kids ≡ NodeKid m ∷ []

@@ -27,6 +27,16 @@ pub record HasMaps (maps : List StateMap) (s : Leaf) : Type 0 where
   pub starts : s.starts < length maps
   pub own : HasMap maps s.own (IsIdentityOf (map_at maps s.starts))
 
+-- all is the same but the entries, how far down their maps are fresh, and the number of tokens
+pub record SameButEntries (s after : Leaf) : Type 0 where
+  pub floors : after.block.floors ≡ s.block.floors
+  pub closed : after.block.closed ≡ s.block.closed
+  pub faults : after.faults.items ≡ s.faults.items
+  pub opened : after.opened ≡ s.opened
+  pub starts : after.starts ≡ s.starts
+  pub own : after.own ≡ s.own
+  pub first : after.first ≡ s.first
+
 -- `w` are the tokens of the open piece, `next` has the token that is looked at, or nothing, and `rest` is left
 pub record IsAt (t : Tables) (store : Store) (maps : List StateMap) (s : Leaf) (tokens w rest next : List TextToken) : Type 0 where
   pub has : HasMaps maps s

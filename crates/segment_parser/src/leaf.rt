@@ -8,6 +8,7 @@ ghost use Rattle.node_store.specs.Chunks.{HasChunk, StoresNode, numbers_in, stor
 ghost use Rattle.state_sets.specs.Within.{HasSymbol};
 ghost use Rattle.arrow_table.specs.Looks.{Grows, HasMap, map_at};
 ghost use Rattle.segment_parser.specs.Working.{AreThere, IsFreshAt, last_id, last_of};
+ghost use Rattle.segment_parser.specs.Standing.{SameButEntries};
 ghost use Rattle.look_laws.specs.Deaths.{deaths};
 
 use crate::deaths::add_deaths;
@@ -48,12 +49,9 @@ impl Leaf {
         requires few { self.old.count < 2 ^ 32 - 1 }
         ensures kids { OnOk result (self.new.block.kids ≡ self.old.block.kids ++ TokenKid token ∷ []) }
         ensures ids { OnOk result (self.new.ids.items ≡ self.old.ids.items ++ to ∷ []) }
-        ensures floors { OnOk result (self.new.block.floors ≡ self.old.block.floors) }
-        ensures closed { OnOk result (self.new.block.closed ≡ self.old.block.closed) }
         ensures count { OnOk result (self.new.count ≡ self.old.count + 1) }
-        ensures faults { OnOk result (self.new.faults.items ≡ self.old.faults.items) }
-        ensures same { OnOk result ((self.new.opened ≡ self.old.opened) × (self.new.starts ≡ self.old.starts)
-            × (self.new.own ≡ self.old.own) × (self.new.stale ≡ self.old.stale) × (self.new.first ≡ self.old.first)) }
+        ensures stale { OnOk result (self.new.stale ≡ self.old.stale) }
+        ensures same { OnOk result (SameButEntries self.old self.new) }
     {
         self.block.push_kid(PackedKid::of(Kid::Token(token)))?;
         self.ids.push(to)?;
@@ -148,12 +146,9 @@ impl Leaf {
         ensures kids { OnOk result (self.new.block.kids ≡ self.old.block.kids ++ NodeKid node ∷ []) }
         ensures ids { OnOk result ((to : ℕ) × (self.new.ids.items ≡ self.old.ids.items ++ to ∷ [])
             × HasMap arrows.new.1 to (IsThenSymbol arrows.old.0 (Name name) (map_at arrows.old.1 below))) }
-        ensures floors { OnOk result (self.new.block.floors ≡ self.old.block.floors) }
-        ensures closed { OnOk result (self.new.block.closed ≡ self.old.block.closed) }
-        ensures faults { OnOk result (self.new.faults.items ≡ self.old.faults.items) }
-        ensures same { OnOk result ((self.new.opened ≡ self.old.opened) × (self.new.starts ≡ self.old.starts)
-            × (self.new.own ≡ self.old.own) × (self.new.stale ≡ self.old.stale) × (self.new.first ≡ self.old.first)
-            × (self.new.count ≡ self.old.count)) }
+        ensures count { OnOk result (self.new.count ≡ self.old.count) }
+        ensures stale { OnOk result (self.new.stale ≡ self.old.stale) }
+        ensures same { OnOk result (SameButEntries self.old self.new) }
     {
         let to = arrows.step(alloc, below, Sym::Name(name))?;
         self.block.push_kid(PackedKid::of(Kid::Node(node)))?;
@@ -177,12 +172,9 @@ impl Leaf {
         ensures trees { IfOk result (λ node. StoresNode (store_of store.old) (store_of store.new) rule
             (drop (length self.old.ids.items - count) self.old.block.kids) node) }
         ensures chunks { OnOk result (numbers_in store.new ≡ numbers_in store.old) }
-        ensures floors { OnOk result (self.new.block.floors ≡ self.old.block.floors) }
-        ensures closed { OnOk result (self.new.block.closed ≡ self.old.block.closed) }
-        ensures faults { OnOk result (self.new.faults.items ≡ self.old.faults.items) }
-        ensures same { OnOk result ((self.new.opened ≡ self.old.opened) × (self.new.starts ≡ self.old.starts)
-            × (self.new.own ≡ self.old.own) × (self.new.stale ≡ self.old.stale) × (self.new.first ≡ self.old.first)
-            × (self.new.count ≡ self.old.count)) }
+        ensures count { OnOk result (self.new.count ≡ self.old.count) }
+        ensures stale { OnOk result (self.new.stale ≡ self.old.stale) }
+        ensures same { OnOk result (SameButEntries self.old self.new) }
     {
         let rest = self.ids.len() - count;
         let node = self.block.take_kids(store, chunk, rule, count)?;
@@ -205,9 +197,8 @@ impl Leaf {
         ensures fresh { OnOk result (IsFreshAt arrows.old.1 arrows.new.1 self.old.starts self.old.stale self.new.stale depth
             self.old.ids.items self.new.ids.items) }
         ensures block { self.new.block ≡ self.old.block }
-        ensures faults { self.new.faults.items ≡ self.old.faults.items }
-        ensures same { OnOk result ((self.new.opened ≡ self.old.opened) × (self.new.starts ≡ self.old.starts)
-            × (self.new.own ≡ self.old.own) × (self.new.first ≡ self.old.first) × (self.new.count ≡ self.old.count)) }
+        ensures count { self.new.count ≡ self.old.count }
+        ensures same { SameButEntries self.old self.new }
     {
         if depth < self.stale {
             let fresh = arrows.restrict(alloc, self.ids[depth], self.starts)?;

@@ -4,7 +4,6 @@ use Rattle.map_theory.specs.Relations.{IsThenSymbol}
 use Rattle.node_store.specs.Chunks.{store_of}
 use Rattle.table_data.specs.Tables.{Tables}
 use Rattle.arrow_table.specs.Looks.{HasMap, map_at}
-use Rattle.segment_parser.proofs.AtLemmas.{IsSameBut}
 use Rattle.segment_parser.proofs.ReduceLemmas.{left_is, reduce_more_at}
 use Rattle.segment_parser.proofs.leaf.Leaf.reduce_more.Goals as goal
 
@@ -21,7 +20,6 @@ returns-clause-at c tokens w rest token at none all =
     let up = c.in_ok-node.ensures in
     let put = c.in_ok-put_node.ensures in
     let same_tables : c.raise.new.arrows.0 ≡ t = c.raise.ensures.tables in
-    let same : IsSameBut s1 after = record { floors = put.floors; closed = put.closed; faults = put.faults; opened = put.same.0; starts = put.same.1; own = put.same.2; first = put.same.4 } in
     let name : rule.0 ≡ c.left-name.result = left_is t c.tables.result.now c.args.rule rule.0 c.left-name.result rule.1 rule.2 (c.tables.ensures ∙ same_tables) c.left-name.ensures.left in
     let to = put.ids.0 in
     let goes1 : HasMap final to (IsThenSymbol t (Name c.left-name.result) (map_at mid s1.own)) = subst (λ (x : Tables). HasMap final to (IsThenSymbol x (Name c.left-name.result) (map_at mid s1.own))) same_tables put.ids.2 in
@@ -29,5 +27,5 @@ returns-clause-at c tokens w rest token at none all =
     reduce_more_at t c.requires.lawful c.requires.lead (store_of c.args.store.now) (store_of c.raise.new.store) maps mid final s s1 after c.args.rule rule.0 c.args.hidden rule.1 c.in_ok-node.node to rule.2 c.requires.some rule.3
     up.floors up.closed up.faults up.opened up.same.0 up.same.1 up.entries.0 up.entries.1 up.entries.2
     up.trees c.raise.ensures.grows (up.back rule.0 rule.1 rule.2) up.own
-    same put.same.3 put.same.5 put.kids put.ids.1 c.put_node.ensures.grows goes
+    put.same put.stale put.count put.kids put.ids.1 c.put_node.ensures.grows goes
     tokens w rest token at none all

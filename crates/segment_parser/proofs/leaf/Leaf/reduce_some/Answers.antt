@@ -9,7 +9,6 @@ use Rattle.node_store.specs.Chunks.{store_of}
 use Rattle.table_data.specs.Tables.{Tables}
 use Rattle.arrow_table.specs.Looks.{HasMap, map_at}
 use Rattle.segment_parser.specs.Working.{last_id, AreThere, IsFreshAt}
-use Rattle.segment_parser.proofs.AtLemmas.{IsSameBut}
 use Rattle.segment_parser.proofs.ReduceLemmas.{rule_inside, taken_there, fresh_there, fresh_length, last_inside, reduce_some_at}
 use Rattle.segment_parser.proofs.leaf.Leaf.reduce_some.Goals as goal
 
@@ -17,7 +16,7 @@ pub freshen-requires-clause-there : goal.freshen-requires-clause-there
 freshen-requires-clause-there c = subst (λ l. AreThere c.args.arrows.now.1 l) (sym c.in_ok-node.ensures.ids) (taken_there c.args.arrows.now.1 c.args.self.now.ids.items (length c.args.self.now.ids.items - c.args.count) c.requires.maps.there)
 
 pub freshen-requires-clause-starts : goal.freshen-requires-clause-starts
-freshen-requires-clause-starts c = subst (λ (k : ℕ). k < length c.args.arrows.now.1) (sym c.in_ok-node.ensures.same.1) c.requires.maps.starts
+freshen-requires-clause-starts c = subst (λ (k : ℕ). k < length c.args.arrows.now.1) (sym c.in_ok-node.ensures.same.starts) c.requires.maps.starts
 
 pub left-name-requires : goal.left-name-requires
 left-name-requires c = subst (λ (t : Tables). c.args.rule < length t.rules) (sym (c.tables.ensures ∙ c.freshen.ensures.tables)) (rule_inside c.requires.rule.2)
@@ -48,10 +47,7 @@ returns-clause-at c tokens w rest token at none all =
     let s2 = c.freshen.new.self in
     let after = c.put_node.new.self in
     let rule = c.requires.rule in
-    let same1 : IsSameBut s s1 = record { floors = c.in_ok-node.ensures.floors; closed = c.in_ok-node.ensures.closed; faults = c.in_ok-node.ensures.faults; opened = c.in_ok-node.ensures.same.0; starts = c.in_ok-node.ensures.same.1; own = c.in_ok-node.ensures.same.2; first = c.in_ok-node.ensures.same.4 } in
-    let same2 : IsSameBut s1 s2 = record { floors = ap (λ b. b.floors) c.freshen.ensures.block; closed = ap (λ b. b.closed) c.freshen.ensures.block; faults = c.freshen.ensures.faults; opened = c.in_ok-freshen.ensures.same.0; starts = c.in_ok-freshen.ensures.same.1; own = c.in_ok-freshen.ensures.same.2; first = c.in_ok-freshen.ensures.same.3 } in
     let put = c.in_ok-put_node.ensures in
-    let same3 : IsSameBut s2 after = record { floors = put.floors; closed = put.closed; faults = put.faults; opened = put.same.0; starts = put.same.1; own = put.same.2; first = put.same.4 } in
     let depth : c.len-depth.result - 1 ≡ length s1.ids.items - 1 = let e = c.len-depth.ensures in let f = s1.ids.ok.0 in omega (arith, e, f) in
     let fresh : IsFreshAt maps mid s1.starts s1.stale s2.stale (length s1.ids.items - 1) s1.ids.items s2.ids.items = subst (λ (k : ℕ). IsFreshAt maps mid s1.starts s1.stale s2.stale k s1.ids.items s2.ids.items) depth c.in_ok-freshen.ensures.fresh in
     let same_tables : c.freshen.new.arrows.0 ≡ t = c.freshen.ensures.tables in
@@ -62,7 +58,7 @@ returns-clause-at c tokens w rest token at none all =
     let goes2 : HasMap final to (IsThenSymbol t (Name rule.0) (map_at mid c.top-below.result)) = subst (λ (x : ℕ). HasMap final to (IsThenSymbol t (Name x) (map_at mid c.top-below.result))) (sym name) goes1 in
     let goes : HasMap final to (IsThenSymbol t (Name rule.0) (map_at mid (last_id s2.ids.items))) = subst (λ (x : ℕ). HasMap final to (IsThenSymbol t (Name rule.0) (map_at mid x))) c.top-below.ensures goes2 in
     reduce_some_at t c.requires.lawful (store_of c.args.store.now) (store_of c.take.new.store) maps mid final s s1 s2 after c.args.rule rule.0 c.args.count rule.1 c.in_ok-node.node to rule.2 rule.3 c.requires.count
-    same1 c.in_ok-node.ensures.same.3 c.in_ok-node.ensures.same.5 c.in_ok-node.ensures.kids c.in_ok-node.ensures.ids c.in_ok-node.ensures.trees
-    c.freshen.ensures.grows fresh same2 (ap (λ b. b.kids) c.freshen.ensures.block) c.in_ok-freshen.ensures.same.4
-    c.put_node.ensures.grows same3 put.same.3 put.same.5 put.kids put.ids.1 goes
+    c.in_ok-node.ensures.same c.in_ok-node.ensures.stale c.in_ok-node.ensures.count c.in_ok-node.ensures.kids c.in_ok-node.ensures.ids c.in_ok-node.ensures.trees
+    c.freshen.ensures.grows fresh c.freshen.ensures.same (ap (λ b. b.kids) c.freshen.ensures.block) c.freshen.ensures.count
+    c.put_node.ensures.grows put.same put.stale put.count put.kids put.ids.1 goes
     tokens w rest token at none all

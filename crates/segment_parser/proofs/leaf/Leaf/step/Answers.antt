@@ -45,8 +45,8 @@ returns-in_ok-shift-in-Shift-clause-at c tokens index looking =
     let is : IsLook t token.id (map_at maps (last_id s.ids.items)) mid (look.Shift to) = subst (λ x. IsLook t token.id (map_at maps (last_id s.ids.items)) mid x) c.in-Shift.is looked in
     let shifted = c.in_ok-shift-in-Shift.ensures in
     shifted_step t (store_of c.args.store.now) maps mid s c.shift.new.self tokens index token to c.look.ensures.grows is.0 is.1 is.2
-    (record { floors = shifted.floors; closed = shifted.closed; faults = shifted.faults; opened = shifted.same.0; starts = shifted.same.1; own = shifted.same.2; first = shifted.same.4 })
-    shifted.same.3 shifted.count shifted.kids shifted.ids looking
+    shifted.same
+    shifted.stale shifted.count shifted.kids shifted.ids looking
 
 pub returns-in-Stuck-clause-at : goal.returns-in-Stuck-clause-at
 returns-in-Stuck-clause-at c tokens index looking =
