@@ -1,0 +1,9 @@
+pub mod EntryLemmas
+pub mod FillLemmas
+pub mod UnderLemmas
+pub mod PieceLemmas
+pub mod FloorLemmas
+pub mod KidLemmas
+pub mod NodeLemmas
+pub mod ClosingLemmas
+pub mod PartLemmas
