@@ -1,0 +1,3 @@
+pub mod Alike
+pub mod InAll
+pub mod Laws

@@ -1,0 +1,4 @@
+pub mod CutLemmas
+pub mod PieceLemmas
+pub mod ReportLemmas
+pub mod AskedLemmas
