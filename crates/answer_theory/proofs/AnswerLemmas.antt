@@ -1,5 +1,5 @@
 -- A task has one answer.
-use Rattle.std.proofs.Common.{◌≡◌, ℕ, suc, List, [], ◌∷◌, ◌++◌, length, refl, sym, ap, subst, ◌∙◌, ⊎_elim, arith}
+use Rattle.std.proofs.Common.{◌≡◌, ℕ, List, [], ◌∷◌, ◌++◌, length, refl, sym, ap, subst, ◌∙◌, ⊎_elim, arith}
 use Rattle.std.proofs.lemmas.List.{append-nil}
 use Rattle.sheet_data.specs.Sheet.{Sheet}
 use Rattle.run_theory.proofs.TokenLemmas.{counted}
@@ -10,10 +10,10 @@ use Rattle.answer_theory.specs.Tasks.{looking, inputs_of}
 use Rattle.answer_theory.specs.Sheets.{IsAccepted, IsRefused}
 use Rattle.answer_theory.specs.Work.{IsWork}
 use Rattle.answer_theory.specs.Answers.{AreWithin, IsPassed, Answers, sheet_refused, input_too_long, work_done}
-use Rattle.answer_theory.specs.Laws.{SomeAnswerLaw}
+use Rattle.answer_theory.specs.Laws.{SomeAnswerLaw, LoadLaw}
 use Rattle.answer_theory.proofs.SheetLemmas.{accepted_once, said_once, not_refused, grammar_of, some_accepted_or_refused}
 use Rattle.answer_theory.proofs.InputLemmas.{within_once, passed_once, not_both, not_passed, within_or_passed, HasPassed}
-use Rattle.answer_theory.proofs.WorkLemmas.{work_once, some_work}
+use Rattle.answer_theory.proofs.WorkLemmas.{work_once, some_work, load_not_refused}
 
 -- no more was read, and the two answers are the same
 abbrev pub AreSame : List (List ℕ) → Status → Status → List ℕ → List ℕ → List ℕ → List ℕ → Type 0
@@ -86,3 +86,9 @@ module _ (task : Task) (bytes : List ℕ) (inputs : List (List ℕ)) (none : Has
 pub some_answer : SomeAnswerLaw
 some_answer task [] counted none = absurd (omega (arith, counted))
 some_answer task (bytes ∷ inputs) counted none = refuted task bytes inputs none (omega (arith, counted))
+
+-- no sample text is refused
+pub load : LoadLaw
+load seed emit inputs status out err (sheet_refused refused) e = cc
+load seed emit inputs status out err (input_too_long accepted passed) e = elim passed [ ]
+load seed emit inputs status out err (work_done {sheet = sheet} accepted within work) e = load_not_refused sheet seed emit work e

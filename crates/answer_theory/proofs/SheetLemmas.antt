@@ -1,5 +1,5 @@
 -- Bytes are accepted or refused in one way, not in both, and it is refuted that they are neither.
-use Rattle.std.proofs.Common.{◌≡◌, ◌≢◌, ℕ, ◌<◌, List, refl, sym, ap, subst, ◌∙◌, ⊎_elim, arith}
+use Rattle.std.proofs.Common.{◌≡◌, ◌≢◌, ℕ, List, refl, sym, ap, subst, ◌∙◌, ⊎_elim}
 use Rattle.scanning_theory.proofs.NotRefuted.{decided}
 use Rattle.grammar_laws.proofs.RangeLemmas.{in_range}
 use Rattle.lr_base.specs.IsGrammar.{IsGrammar}
@@ -12,7 +12,7 @@ use Rattle.outline_data.specs.declared.fault.SheetFault.{SheetFault}
 use Rattle.outline_theory.specs.Reading.{Reads}
 use Rattle.grammar_faults.specs.declared.fault.GrammarFault.{GrammarFault}
 use Rattle.grammar_faults.specs.declared.fault.GrammarFault.TheVariants.{NoMemory}
-use Rattle.grammar_faults.specs.Building.{IsBuildable, IsFaultOf}
+use Rattle.grammar_faults.specs.Building.{IsFaultOf}
 use Rattle.grammar_faults.proofs.FaultLemmas.{one_fault, buildable}
 use Rattle.collection_laws.proofs.FaultLemmas.{some_fault}
 use Rattle.report_theory.specs.FaultTexts.{fault_text, grammar_text}

@@ -1,8 +1,6 @@
 -- What each task answers is one thing, and it is refuted that it is nothing.
-use Rattle.std.proofs.Common.{◌≡◌, ℕ, ◌<◌, ◌≤◌, List, [], ◌∷◌, length, refl, sym, ap, subst, ◌∙◌, arith}
+use Rattle.std.proofs.Common.{◌≡◌, ◌≢◌, ℕ, List, [], ◌∷◌, length, refl, sym, ap, subst, ◌∙◌, arith}
 use Rattle.std.proofs.lemmas.List.{length-map}
-use Rattle.grammar_data.specs.declared.token.Token.{Token}
-use Rattle.scanning_theory.specs.Scan.{AreTokens}
 use Rattle.scanning_theory.proofs.ScanLemmas.{lines_once}
 use Rattle.scanning_theory.proofs.SomeList.{some_list}
 use Rattle.sheet_data.specs.Sheet.{Sheet}
@@ -11,7 +9,7 @@ use Rattle.sheet_theory.specs.TokenList.{token_list}
 use Rattle.outline_theory.specs.Layout.{layout}
 use Rattle.lr_base.specs.IsGrammar.{IsGrammar}
 use Rattle.grammar_laws.proofs.RangeLemmas.{in_range}
-use Rattle.grammar_faults.specs.Building.{IsBuildable, IsFaultOf}
+use Rattle.grammar_faults.specs.Building.{IsBuildable}
 use Rattle.grammar_faults.proofs.FaultLemmas.{buildable}
 use Rattle.collection_laws.proofs.BuiltLemmas.{some_grammar}
 use Rattle.report_theory.specs.TableTexts.{tables_text}
@@ -19,14 +17,20 @@ use Rattle.report_theory.proofs.SameTexts.{one_text}
 use Rattle.run_theory.specs.declared.emit.Emit.{Emit}
 use Rattle.run_theory.specs.SheetTokens.{CountsTokens}
 use Rattle.run_theory.specs.RunAnswers.{Outcome, Given, Refused, IsRunAnswer}
-use Rattle.run_theory.proofs.RunLemmas.{one_answer, some_answer}
+use Rattle.run_theory.proofs.RunLemmas.{one_answer, some_answer, refused}
+use Rattle.sample_theory.specs.Samples.{Sample, Text, NoSample as no_sample, TooLong as too_long}
+use Rattle.sample_theory.proofs.SampleLemmas.{one_sample_law, some_sample_law}
+use Rattle.sample_theory.proofs.LineLemmas.{text_law}
 use Rattle.answer_theory.specs.declared.status.Status.{Status}
-use Rattle.answer_theory.specs.declared.status.Status.TheVariants.{Done, TextRefused}
+use Rattle.answer_theory.specs.declared.status.Status.TheVariants.{Done, TextRefused, NoSample, TextTooLong}
+use Rattle.answer_theory.specs.declared.task.Seed.{Seed}
 use Rattle.answer_theory.specs.declared.task.Task.{Task}
-use Rattle.answer_theory.specs.declared.task.Task.TheVariants.{Tokens, Check, Tables, Run}
+use Rattle.answer_theory.specs.declared.task.Task.TheVariants.{Tokens, Check, Tables, Run, Gen, Load}
 use Rattle.answer_theory.specs.Tasks.{looking, inputs_of}
+use Rattle.answer_theory.specs.Tasks.{long_text_text}
 use Rattle.answer_theory.specs.Sheets.{Suits}
-use Rattle.answer_theory.specs.Work.{IsListOf, IsTablesText, IsWork, tokens_listed, layout_printed, tables_printed, run_given, run_refused}
+use Rattle.answer_theory.specs.SampleTexts.{IsSampleOf, HasNoSample, no_sample_text, without_word, too_many_bytes}
+use Rattle.answer_theory.specs.Work.{IsListOf, IsTablesText, IsWork, tokens_listed, layout_printed, tables_printed, run_given, run_refused, sample_given, none_given, sample_loaded, none_loaded}
 use Rattle.answer_theory.specs.Answers.{AreWithin, none_left, one_within}
 
 list_once : (sheet : Sheet) (text listed other : List ℕ) → IsListOf sheet text listed → IsListOf sheet text other → listed ≡ other
@@ -35,6 +39,27 @@ list_once sheet text listed other one two = one.is ∙ ap (token_list sheet text
 tables_once : (sheet : Sheet) (printed other : List ℕ) → IsTablesText sheet printed → IsTablesText sheet other → printed ≡ other
 tables_once sheet printed other one two =
     one.is ∙ one_text sheet one.collection two.collection one.tables two.tables one.built.collection two.built.collection one.built.tables two.built.tables ∙ sym two.is
+
+-- a seed gives one sample
+sample_once : (sheet : Sheet) (seed : Seed) {one other : Sample} → IsSampleOf sheet seed one → IsSampleOf sheet seed other → one ≡ other
+sample_once sheet seed {one} {other} is also = one_sample_law (scanning_of sheet) sheet.grammar seed.from seed.size one other is also
+
+text_once : (sheet : Sheet) (seed : Seed) {text other : List ℕ} → IsSampleOf sheet seed (Text text) → IsSampleOf sheet seed (Text other) → text ≡ other
+text_once sheet seed {text} {other} is also = let same : Text text ≡ Text other = sample_once sheet seed is also in cc
+
+-- a text and none, or none for two reasons
+no_text : (sheet : Sheet) (seed : Seed) {text said : List ℕ} {status : Status} → IsSampleOf sheet seed (Text text) → ¬ (HasNoSample sheet seed status said)
+no_text sheet seed {text = text} is (without_word {token = token} none) = let same : Text text ≡ no_sample token = sample_once sheet seed is none in cc
+no_text sheet seed {text = text} is (too_many_bytes long) = let same : Text text ≡ too_long = sample_once sheet seed is long in cc
+
+none_once : (sheet : Sheet) (seed : Seed) {said other_said : List ℕ} {status other_status : Status} → HasNoSample sheet seed status said → HasNoSample sheet seed other_status other_said → (status ≡ other_status) × (said ≡ other_said)
+none_once sheet seed (without_word {token = token} one) (without_word {token = other} two) =
+    let same : no_sample token ≡ no_sample other = sample_once sheet seed one two in
+    let tokens : token ≡ other = cc in
+    (refl, ap (no_sample_text sheet) tokens)
+none_once sheet seed (without_word {token = token} one) (too_many_bytes two) = let same : no_sample token ≡ too_long = sample_once sheet seed one two in absurd (cc)
+none_once sheet seed (too_many_bytes one) (without_word {token = token} two) = let same : too_long ≡ no_sample token = sample_once sheet seed one two in absurd (cc)
+none_once sheet seed (too_many_bytes one) (too_many_bytes two) = (refl, refl)
 
 -- the bytes of two outcomes that are given, or that are refused
 abbrev given_in : Outcome → List ℕ
@@ -64,6 +89,19 @@ module _ (sheet : Sheet) (grammar : IsGrammar sheet.grammar) where
   work_once suits (run_given {given = given} one) (run_refused {said = other} two) = runs_once (Given given) (Refused other) suits one two
   work_once suits (run_refused {said = said} one) (run_given {given = other} two) = runs_once (Refused said) (Given other) suits one two
   work_once suits (run_refused {said = said} one) (run_refused {said = other} two) = runs_once (Refused said) (Refused other) suits one two
+  work_once suits (sample_given {text = text} {seed = seed} is) (sample_given {text = other} also) = (refl, text_once sheet seed is also, refl)
+  work_once suits (sample_given {seed = seed} is) (none_given none) = absurd (no_text sheet seed is none)
+  work_once suits (none_given {seed = seed} none) (sample_given is) = absurd (no_text sheet seed is none)
+  work_once suits (none_given {seed = seed} one) (none_given two) =
+      let (statuses, said) = none_once sheet seed one two in
+      (statuses, refl, said)
+  work_once {other_status = other_status} {other_out = other_out} {other_err = other_err} suits (sample_loaded {text = text} {seed = seed} {emit = emit} is work) (sample_loaded {text = other} also other_work) =
+      work_once suits work (subst (λ t. IsWork sheet (Run emit) (t ∷ []) other_status other_out other_err) (sym (text_once sheet seed is also)) other_work)
+  work_once suits (sample_loaded {seed = seed} is work) (none_loaded none) = absurd (no_text sheet seed is none)
+  work_once suits (none_loaded {seed = seed} none) (sample_loaded is work) = absurd (no_text sheet seed is none)
+  work_once suits (none_loaded {seed = seed} one) (none_loaded two) =
+      let (statuses, said) = none_once sheet seed one two in
+      (statuses, refl, said)
 
 -- each rank of a sheet has a meaning
 ranks_have_meanings : (sheet : Sheet) → length (scanning_of sheet).patterns ≡ length (scanning_of sheet).means
@@ -90,9 +128,45 @@ module _ (sheet : Sheet) (grammar : IsGrammar sheet.grammar) where
       no_outcome none (Given out) answer = none Done out [] (run_given answer)
       no_outcome none (Refused said) answer = none TextRefused [] said (run_refused answer)
 
+  some_sample : (seed : Seed) → IsBuildable sheet.grammar → ((sample : Sample) → ¬ (IsSampleOf sheet seed sample)) → ⊥
+  some_sample seed is none = some_sample_law (scanning_of sheet) sheet.grammar seed.from seed.size (in_range sheet.grammar grammar) is.small.useful.productive none
+
+  some_gen : (seed : Seed) → IsBuildable sheet.grammar → HasNoWork (Gen seed) [] → ⊥
+  some_gen seed is none = some_sample seed is no_sample_of
+    where
+      no_sample_of : (sample : Sample) → ¬ (IsSampleOf sheet seed sample)
+      no_sample_of (Text text) of = none Done text [] (sample_given of)
+      no_sample_of (no_sample token) of = none NoSample [] (no_sample_text sheet token) (none_given (without_word of))
+      no_sample_of too_long of = none TextTooLong [] long_text_text (none_given (too_many_bytes of))
+
+  some_load : (seed : Seed) (emit : Emit) → CountsTokens sheet → IsBuildable sheet.grammar → HasNoWork (Load seed emit) [] → ⊥
+  some_load seed emit counts is none = some_sample seed is no_sample_of
+    where
+      no_sample_of : (sample : Sample) → ¬ (IsSampleOf sheet seed sample)
+      no_sample_of (Text text) of = some_run emit text counts is (λ status out err work. none status out err (sample_loaded of work))
+      no_sample_of (no_sample token) of = none NoSample [] (no_sample_text sheet token) (none_loaded (without_word of))
+      no_sample_of too_long of = none TextTooLong [] long_text_text (none_loaded (too_many_bytes of))
+
   -- it is refuted that no work is done
   pub some_work : CountsTokens sheet → (task : Task) {inputs : List (List ℕ)} → Suits (looking task) sheet → AreWithin (inputs_of task) inputs → HasNoWork task inputs → ⊥
   some_work counts Tokens suits (one_within {bytes = text} short none_left) none = some_tokens text none
   some_work counts Check suits none_left none = none Done (layout sheet) [] (layout_printed refl)
   some_work counts Tables suits none_left none = some_tables suits none
   some_work counts (Run emit) suits (one_within {bytes = text} short none_left) none = some_run emit text counts suits none
+  some_work counts (Gen seed) suits none_left none = some_gen seed suits none
+  some_work counts (Load seed emit) suits none_left none = some_load seed emit counts suits none
+
+-- a run over a sample text is not refused
+sample_not_refused : (sheet : Sheet) (seed : Seed) (emit : Emit) (text out err : List ℕ) (status : Status) → IsSampleOf sheet seed (Text text) → IsWork sheet (Run emit) (text ∷ []) status out err → status ≢ TextRefused
+sample_not_refused sheet seed emit text out err status is (run_given answer) e = cc
+sample_not_refused sheet seed emit text out err status is (run_refused {said = said} answer) e =
+    let (tokens, are, chosen, sentence) = text_law (scanning_of sheet) sheet.grammar seed.from seed.size text is in
+    refused sheet text emit tokens said are answer sentence
+
+none_not_refused : {sheet : Sheet} {seed : Seed} {said : List ℕ} {status : Status} → HasNoSample sheet seed status said → status ≢ TextRefused
+none_not_refused (without_word none) e = cc
+none_not_refused (too_many_bytes long) e = cc
+
+pub load_not_refused : (sheet : Sheet) (seed : Seed) (emit : Emit) {inputs : List (List ℕ)} {status : Status} {out err : List ℕ} → IsWork sheet (Load seed emit) inputs status out err → status ≢ TextRefused
+load_not_refused sheet seed emit {status = status} {out = out} {err = err} (sample_loaded {text = text} is work) = sample_not_refused sheet seed emit text out err status is work
+load_not_refused sheet seed emit (none_loaded none) = none_not_refused none

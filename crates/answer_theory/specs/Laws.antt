@@ -1,7 +1,11 @@
--- Laws of the answers: a task has one answer at most, and it is refuted that it has none.
-use Rattle.std.specs.Prelude.{◌≡◌, ℕ, suc, List, [], ◌++◌, length}
+-- Laws of the answers: a task has one answer at most, and it is refuted that it has none; no sample text is refused.
+use Rattle.std.specs.Prelude.{◌≡◌, ◌≢◌, ℕ, suc, List, [], ◌++◌, length}
+use Rattle.run_theory.specs.declared.emit.Emit.{Emit}
 use Rattle.answer_theory.specs.declared.status.Status.{Status}
+use Rattle.answer_theory.specs.declared.status.Status.TheVariants.{TextRefused}
+use Rattle.answer_theory.specs.declared.task.Seed.{Seed}
 use Rattle.answer_theory.specs.declared.task.Task.{Task}
+use Rattle.answer_theory.specs.declared.task.Task.TheVariants.{Load}
 use Rattle.answer_theory.specs.Tasks.{inputs_of}
 use Rattle.answer_theory.specs.Answers.{Answers}
 
@@ -14,3 +18,7 @@ OneAnswerLaw = (task : Task) (inputs more : List (List ℕ)) (status other_statu
 -- of these were read
 abbrev pub SomeAnswerLaw : Type 0
 SomeAnswerLaw = (task : Task) (inputs : List (List ℕ)) → length inputs ≡ suc (length (inputs_of task)) → ((before more : List (List ℕ)) (status : Status) (out err : List ℕ) → inputs ≡ before ++ more → ¬ (Answers task before status out err)) → ⊥
+
+-- the tokens of a sample text are a sentence, so that no sample is refused
+abbrev pub LoadLaw : Type 0
+LoadLaw = (seed : Seed) (emit : Emit) (inputs : List (List ℕ)) (status : Status) (out err : List ℕ) → Answers (Load seed emit) inputs status out err → status ≢ TextRefused

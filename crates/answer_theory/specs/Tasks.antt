@@ -4,7 +4,7 @@ use Rattle.lr_base.specs.declared.limits.TheConstants.{TEXT_BYTES}
 use Rattle.answer_theory.specs.declared.status.Status.{Status}
 use Rattle.answer_theory.specs.declared.status.Status.TheVariants.{TextTooLong}
 use Rattle.answer_theory.specs.declared.task.Task.{Task}
-use Rattle.answer_theory.specs.declared.task.Task.TheVariants.{Tokens, Check, Tables, Run}
+use Rattle.answer_theory.specs.declared.task.Task.TheVariants.{Tokens, Check, Tables, Run, Gen, Load}
 
 -- for which faults a task looks
 pub data Looking : Type 0 where
@@ -18,6 +18,8 @@ looking Tokens = for_scanning
 looking Check = for_parsing
 looking Tables = for_parsing
 looking (Run emit) = for_parsing
+looking (Gen seed) = for_parsing
+looking (Load seed emit) = for_parsing
 
 -- what is read besides a sheet: the most bytes that it may have, and the status and what is said where it has more
 pub record Input : Type 0 where
@@ -37,3 +39,5 @@ inputs_of Tokens = text_input ∷ []
 inputs_of Check = []
 inputs_of Tables = []
 inputs_of (Run emit) = text_input ∷ []
+inputs_of (Gen seed) = []
+inputs_of (Load seed emit) = []

@@ -1,4 +1,4 @@
-ghost use Rattle.answer_theory.specs.Laws.{OneAnswerLaw, SomeAnswerLaw};
+ghost use Rattle.answer_theory.specs.Laws.{LoadLaw, OneAnswerLaw, SomeAnswerLaw};
 
 /// The bytes that stand under the names of a task determine its answer: which of them have to be read, the status, and the bytes
 /// that both outputs take.
@@ -9,4 +9,9 @@ pub fn one_answer_law()
 /// Where there are bytes for each name that a task reads, it is refuted that it has no answer.
 pub fn some_answer_law()
     ensures { SomeAnswerLaw }
+{}
+
+/// No sample text is refused, since its tokens are a sentence.
+pub fn load_law()
+    ensures { LoadLaw }
 {}

@@ -20,10 +20,12 @@ pub enum Status {
     NoMemory,
     /// The text has too many bytes.
     TextTooLong,
+    /// A token of the sample text has no word.
+    NoSample,
 }
 
 impl Status {
-    /// The exit status: 0 done, 1 text refused, 2 bad words, 3 sheet refused, 4 read fault, 5 write fault, 6 no memory, 7 text too long.
+    /// The exit status: 0 done, 1 text refused, 2 bad words, 3 sheet refused, 4 read fault, 5 write fault, 6 no memory, 7 text too long, 8 no sample.
     pub fn code(&self) -> u8
         ensures { result ≡ code_of self.now }
     {
@@ -36,6 +38,7 @@ impl Status {
             Status::WriteFault => 5,
             Status::NoMemory => 6,
             Status::TextTooLong => 7,
+            Status::NoSample => 8,
         }
     }
 }

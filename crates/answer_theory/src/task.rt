@@ -1,5 +1,12 @@
 use run_theory::Emit;
 
+/// What determines a sample text of a sheet: the number from which choices are drawn, and how many are drawn at the most.
+#[derive(Clone, Copy, Debug, PartialEq, Eq)]
+pub struct Seed {
+    pub from: u32,
+    pub size: u32,
+}
+
 /// What a command asks for, without the names of what it reads.
 #[derive(Clone, Copy, Debug, PartialEq, Eq)]
 pub enum Task {
@@ -11,4 +18,8 @@ pub enum Task {
     Tables,
     /// The translation of a text by a sheet, or the names that it declares.
     Run(Emit),
+    /// The sample text of a sheet.
+    Gen(Seed),
+    /// The translation of the sample text of a sheet, or the names that it declares.
+    Load(Seed, Emit),
 }

@@ -1,6 +1,13 @@
-//! What the words that a call of the program is given ask for: a task, and the names of what it reads.
+//! What the words that a call of the program is given ask for: a task, with the names of what it reads.
 #![tactic(auto)]
 
+mod arguments;
+mod asking;
+mod command;
+mod fault;
+mod values;
 mod words;
 
-pub use words::{Command, command_of};
+pub use command::Command;
+pub use fault::WordFault;
+pub use words::command_of;

@@ -3,11 +3,13 @@ use Rattle.std.proofs.Common.{◌≡◌, ◌≢◌, ◌⊎◌, inl, inr, List, [
 use Rattle.lr_base.specs.Outside.{ShelfSeen, SinkSeen}
 use Rattle.sheet_data.specs.Sheet.{Sheet}
 use Rattle.answer_theory.specs.declared.status.Status.{Status}
-use Rattle.answer_theory.specs.declared.status.Status.TheVariants.{Done, TextRefused, WriteFault, NoMemory}
+use Rattle.answer_theory.specs.declared.status.Status.TheVariants.{Done, WriteFault, NoMemory}
 use Rattle.answer_theory.specs.declared.task.Task.{Task}
-use Rattle.answer_theory.specs.declared.task.Task.TheVariants.{Tokens, Check, Tables, Run}
+use Rattle.answer_theory.specs.declared.task.Task.TheVariants.{Tokens, Check, Tables, Run, Gen, Load}
+use Rattle.answer_theory.specs.declared.task.Seed.{Seed}
+use Rattle.answer_theory.specs.SampleTexts.{HasNoSample, without_word, too_many_bytes}
 use Rattle.answer_theory.specs.Tasks.{inputs_of}
-use Rattle.answer_theory.specs.Work.{IsWork, tokens_listed, layout_printed, tables_printed, run_given, run_refused}
+use Rattle.answer_theory.specs.Work.{IsWork, tokens_listed, layout_printed, tables_printed, run_given, run_refused, sample_given, none_given, sample_loaded, none_loaded}
 use Rattle.answer_theory.specs.Answers.{Answers, sheet_refused, input_too_long, work_done, IsPassed, passed_here, passed_later}
 use Rattle.lrpar_cli.specs.declared.stop.Stop.{Stop}
 use Rattle.lrpar_cli.specs.declared.stop.Stop.TheVariants.{Due, Unread, Unwritten, Spent}
@@ -45,6 +47,14 @@ passed_quiet Tables passed quiet = elim passed [ ]
 passed_quiet (Run emit) (passed_here long) (inl e) = cc
 passed_quiet (Run emit) (passed_here long) (inr e) = cc
 passed_quiet (Run emit) (passed_later short passed) quiet = elim passed [ ]
+passed_quiet (Gen seed) passed quiet = elim passed [ ]
+passed_quiet (Load seed emit) passed quiet = elim passed [ ]
+
+none_quiet : {sheet : Sheet} {seed : Seed} {status : Status} {said : List ℕ} → HasNoSample sheet seed status said → ¬ (IsQuiet status)
+none_quiet (without_word none) (inl e) = cc
+none_quiet (without_word none) (inr e) = cc
+none_quiet (too_many_bytes long) (inl e) = cc
+none_quiet (too_many_bytes long) (inr e) = cc
 
 work_silent : {sheet : Sheet} {task : Task} {inputs : List (List ℕ)} {status : Status} {out err : List ℕ} → IsWork sheet task inputs status out err → IsQuiet status → err ≡ []
 work_silent (tokens_listed is) quiet = refl
@@ -53,6 +63,10 @@ work_silent (tables_printed is) quiet = refl
 work_silent (run_given answer) quiet = refl
 work_silent (run_refused answer) (inl e) = absurd (cc)
 work_silent (run_refused answer) (inr e) = absurd (cc)
+work_silent (sample_given is) quiet = refl
+work_silent (none_given none) quiet = absurd (none_quiet none quiet)
+work_silent (sample_loaded is work) quiet = work_silent work quiet
+work_silent (none_loaded none) quiet = absurd (none_quiet none quiet)
 
 answer_silent : {task : Task} {inputs : List (List ℕ)} {status : Status} {out err : List ℕ} → Answers task inputs status out err → IsQuiet status → err ≡ []
 answer_silent (sheet_refused refused) (inl e) = absurd (cc)

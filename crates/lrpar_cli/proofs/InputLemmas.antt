@@ -69,11 +69,6 @@ fault_stop bytes fault stop some (inl e) is = absurd (some e)
 fault_stop bytes fault stop some (inr first) (inl due) = subst (IsScanStop bytes) (sym due) (refl, λ looking. by_fault fault (of_reading first) refl)
 fault_stop bytes fault stop some (inr first) (inr spent) = subst (IsScanStop bytes) (sym spent) tt
 
--- what is said of too many states
-pub states_stop : (sheet : Sheet) (stop : Stop) → HasTooManyStates sheet → IsDueStop SheetRefused (fault_text states_fault) stop → IsStatesStop sheet stop
-states_stop sheet stop many (inl due) = subst (IsStatesStop sheet) (sym due) (refl, many, refl)
-states_stop sheet stop many (inr spent) = subst (IsStatesStop sheet) (sym spent) tt
-
 scan_stop : (bytes : List ℕ) (sheet : Sheet) (stop : Stop) → Reads bytes sheet → IsStatesStop sheet stop → IsScanStop bytes stop
 scan_stop bytes sheet (Due status said) reads is = (is.0, λ looking. by_fault states_fault (of_states reads is.1) is.2)
 scan_stop bytes sheet Unread reads is = is
@@ -89,16 +84,6 @@ scan_refused bytes sheet (Err stop) reads is = scan_stop bytes sheet stop reads 
 pub scans_so : (bytes : List ℕ) (sheet : Sheet) (result : Result Scanned Stop) → Reads bytes sheet → IfOk result (λ s. s.sheet ≡ sheet) → IfOk result (λ _. ¬ (HasTooManyStates sheet)) → IfOk result (λ s. Scans bytes s.sheet)
 scans_so bytes sheet (Ok scanned) reads same few = record { reads = subst (Reads bytes) (sym same) reads; few = λ many. few (subst HasTooManyStates same many) }
 scans_so bytes sheet (Err stop) reads same few = tt
-
--- the sheet of what stands there
-pub has_sheet : (shelf : ShelfSeen) (name bytes : List ℕ) (result : Result Scanned Stop) → StandsUnder shelf name bytes → IfOk result (λ s. Scans bytes s.sheet) → IfOk result (λ s. HasSheet for_scanning shelf name s.sheet)
-has_sheet shelf name bytes (Ok scanned) stand scans = record { bytes = bytes; stand = stand; accepted = record { scans = scans; suits = tt } }
-has_sheet shelf name bytes (Err stop) stand scans = tt
-
--- no scan fails to read
-pub scan_not_unread : (bytes : List ℕ) (result : Result Scanned Stop) → IfErr result (λ stop. IsScanStop bytes stop) → result ≢ Err Unread
-scan_not_unread bytes (Ok scanned) is e = cc
-scan_not_unread bytes (Err stop) is e = subst (IsScanStop bytes) (let same : stop ≡ Unread = cc in same) is
 
 -- where the sheet is refused by what it is scanned for, it is refused by what it is parsed for
 pub parsing_stop : (shelf : ShelfSeen) (name : List ℕ) (stop : Stop) → IsSheetStop for_scanning shelf name stop → IsSheetStop for_parsing shelf name stop
@@ -116,6 +101,3 @@ grammar_stop shelf name sheet (Due status said) has is = (is.0, record { bytes =
 grammar_stop shelf name sheet Unread has is = absurd is
 grammar_stop shelf name sheet Unwritten has is = is
 grammar_stop shelf name sheet Spent has is = tt
-
-pub grammar_not_unread : (sheet : Sheet) (stop : Stop) → IsGrammarStop sheet stop → stop ≢ Unread
-grammar_not_unread sheet stop is e = subst (IsGrammarStop sheet) e is

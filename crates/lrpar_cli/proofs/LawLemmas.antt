@@ -6,16 +6,19 @@ use Rattle.std.proofs.lemmas.Option.{slice_get_within, slice_get-get_or}
 use Rattle.lr_base.specs.Outside.{ShelfSeen, SinkSeen, Fails, is_listed}
 use Rattle.sheet_data.specs.Sheet.{Sheet}
 use Rattle.answer_theory.specs.declared.status.Status.{Status}
-use Rattle.answer_theory.specs.declared.status.Status.TheVariants.{Done, BadWords, ReadFault, WriteFault, TextTooLong}
+use Rattle.answer_theory.specs.declared.status.Status.TheVariants.{Done, TextRefused, BadWords, ReadFault, WriteFault, TextTooLong}
 use Rattle.answer_theory.specs.declared.task.Task.{Task}
-use Rattle.answer_theory.specs.declared.task.Task.TheVariants.{Tokens, Check, Tables, Run}
+use Rattle.answer_theory.specs.declared.task.Task.TheVariants.{Tokens, Check, Tables, Run, Gen, Load}
+use Rattle.answer_theory.specs.declared.task.Seed.{Seed}
+use Rattle.answer_theory.specs.SampleTexts.{HasNoSample, without_word, too_many_bytes}
 use Rattle.answer_theory.specs.Tasks.{inputs_of}
-use Rattle.answer_theory.specs.Work.{IsWork, tokens_listed, layout_printed, tables_printed, run_given, run_refused}
+use Rattle.answer_theory.specs.Work.{IsWork, tokens_listed, layout_printed, tables_printed, run_given, run_refused, sample_given, none_given, sample_loaded, none_loaded}
 use Rattle.answer_theory.specs.Answers.{Answers, sheet_refused, input_too_long, work_done, IsPassed, passed_here, passed_later}
-use Rattle.answer_theory.proofs.AnswerLemmas.{answer_once}
+use Rattle.answer_theory.proofs.AnswerLemmas.{answer_once, load}
+use Rattle.run_theory.specs.declared.emit.Emit.{Emit}
 use Rattle.word_theory.specs.Words.{HasForm, IsBadWords}
-use Rattle.lrpar_cli.specs.Endings.{Outside, AreRead, none_read, one_read, IsDue, IsUnread, answered, unread, unwritten, spent, said_whole, said_in_part, IsEnding, with_bad_words, with_task}
-use Rattle.lrpar_cli.specs.Laws.{OneDueLaw, CompleteLaw, ServedLaw, RoomLaw, bad_words_answered, task_answered, AreServed, Fits}
+use Rattle.lrpar_cli.specs.Endings.{Outside, AreRead, none_read, one_read, IsDue, IsUnread, ComesOut, answered, unread, unwritten, spent, said_whole, said_in_part, IsEnding, with_bad_words, without_memory, with_task}
+use Rattle.lrpar_cli.specs.Laws.{OneDueLaw, CompleteLaw, ServedLaw, RoomLaw, LoadedLaw, bad_words_answered, task_answered, AreServed, Fits}
 use Rattle.word_theory.proofs.WordLemmas.{form_once}
 
 same_standing : (stood : Option (List ℕ)) (one other : List ℕ) → IsSome stood → IfSome stood (λ standing. one ≡ standing) → IfSome stood (λ standing. other ≡ standing) → one ≡ other
@@ -79,6 +82,12 @@ passed_status Check passed = elim passed [ ]
 passed_status Tables passed = elim passed [ ]
 passed_status (Run emit) (passed_here long) = answer_long
 passed_status (Run emit) (passed_later short passed) = elim passed [ ]
+passed_status (Gen seed) passed = elim passed [ ]
+passed_status (Load seed emit) passed = elim passed [ ]
+
+none_status : {sheet : Sheet} {seed : Seed} {status : Status} {said : List ℕ} → HasNoSample sheet seed status said → IsAnswer status
+none_status (without_word none) = record { read = λ e. cc; written = λ e. cc; given = λ e. cc }
+none_status (too_many_bytes long) = answer_long
 
 work_status : {sheet : Sheet} {task : Task} {inputs : List (List ℕ)} {status : Status} {out err : List ℕ} → IsWork sheet task inputs status out err → IsAnswer status
 work_status (tokens_listed is) = answer_done
@@ -86,6 +95,10 @@ work_status (layout_printed is) = answer_done
 work_status (tables_printed is) = answer_done
 work_status (run_given answer) = answer_done
 work_status (run_refused answer) = record { read = λ e. cc; written = λ e. cc; given = λ e. cc }
+work_status (sample_given is) = answer_done
+work_status (none_given none) = none_status none
+work_status (sample_loaded is work) = work_status work
+work_status (none_loaded none) = none_status none
 
 pub answer_status : {task : Task} {inputs : List (List ℕ)} {status : Status} {out err : List ℕ} → Answers task inputs status out err → IsAnswer status
 answer_status (sheet_refused refused) = record { read = λ e. cc; written = λ e. cc; given = λ e. cc }
@@ -118,6 +131,7 @@ served_read before after words names task form all fault =
 pub complete : CompleteLaw
 complete words before after status (with_bad_words bad read takes (said_whole said)) quiet out err = inr (bad_words_answered bad read takes said)
 complete words before after status (with_bad_words bad read takes (said_in_part fails)) quiet out err = absurd (err fails.rose)
+complete words before after status (without_memory read takes none) quiet out err = inl refl
 complete words before after status (with_task form (answered due read takes) (said_whole said)) quiet out err = inr (task_answered form due read takes said)
 complete words before after status (with_task form (answered due read takes) (said_in_part fails)) quiet out err = absurd (err fails.rose)
 complete words before after status (with_task {task = task} {names = names} form (unread fault takes) said) quiet out err =
@@ -129,6 +143,7 @@ complete words before after status (with_task form (spent memory) (said_in_part 
 pub served : ServedLaw
 served words before after status (with_bad_words bad read takes (said_whole said)) all e = cc
 served words before after status (with_bad_words bad read takes (said_in_part fails)) all e = cc
+served words before after status (without_memory read takes none) all e = cc
 served words before after status (with_task form (answered due read takes) (said_whole said)) all e = (answer_status due.answers).read e
 served words before after status (with_task form (answered due read takes) (said_in_part fails)) all e = cc
 served words before after status (with_task {task = task} {names = names} form (unread fault takes) said) all e = served_read before.shelf after.shelf words names task form all fault
@@ -140,6 +155,7 @@ served words before after status (with_task form (spent memory) (said_in_part fa
 pub room : RoomLaw
 room words before after status (with_bad_words bad read takes (said_whole said)) stays have e = cc
 room words before after status (with_bad_words bad read takes (said_in_part fails)) stays have e = not_full before.err after.err _ stays.err.room (have.for_bad_words bad) fails
+room words before after status (without_memory read takes none) stays have e = cc
 room words before after status (with_task form (answered due read takes) (said_whole said)) stays have e = (answer_status due.answers).written e
 room words before after status (with_task form (answered due read takes) (said_in_part fails)) stays have e = not_full before.err after.err _ stays.err.room (have.for_err _ _ _ _ _ _ form due) fails
 room words before after status (with_task form (unread fault takes) (said_whole said)) stays have e = cc
@@ -152,6 +168,7 @@ room words before after status (with_task form (spent memory) (said_in_part fail
 -- a call that ends with bad words was given such
 pub ends_bad : (words : List (List ℕ)) (before after : Outside) (status : Status) → IsEnding words before after status → status ≡ BadWords → IsBadWords words
 ends_bad words before after status (with_bad_words bad read takes said) e = bad
+ends_bad words before after status (without_memory read takes none) e = cc
 ends_bad words before after status (with_task form (answered due read takes) (said_whole said)) e = absurd ((answer_status due.answers).given e)
 ends_bad words before after status (with_task form (answered due read takes) (said_in_part fails)) e = cc
 ends_bad words before after status (with_task form (unread fault takes) (said_whole said)) e = cc
@@ -160,3 +177,19 @@ ends_bad words before after status (with_task form (unwritten due read fails) (s
 ends_bad words before after status (with_task form (unwritten due read fails) (said_in_part part)) e = cc
 ends_bad words before after status (with_task form (spent memory) (said_whole said)) e = cc
 ends_bad words before after status (with_task form (spent memory) (said_in_part fails)) e = cc
+
+-- ---- sample texts
+
+sample_comes : {seed : Seed} {emit : Emit} {names : List (List ℕ)} {before after : ShelfSeen} {out_before out_after : SinkSeen} {said : List ℕ} {status : Status} → ComesOut (Load seed emit) names before after out_before out_after said status → status ≢ TextRefused
+sample_comes {seed} {emit} (answered {status = status} {out = out} {err = err} due read takes) e = load seed emit due.inputs status out err due.answers e
+sample_comes (unread fault takes) e = cc
+sample_comes (unwritten due read fails) e = cc
+sample_comes (spent memory) e = cc
+
+pub loaded : LoadedLaw
+loaded words names seed emit before after status (with_bad_words bad read takes said) form e = bad (Load seed emit) names form
+loaded words names seed emit before after status (without_memory read takes none) form e = cc
+loaded words names seed emit before after status (with_task {task = task} {names = others} {said = said} other comes (said_whole taken)) form e =
+    let tasks : task ≡ Load seed emit = (form_once words others names task (Load seed emit) other form).0 in
+    sample_comes (subst (λ t. ComesOut t others before.shelf after.shelf before.out after.out said status) tasks comes) e
+loaded words names seed emit before after status (with_task other comes (said_in_part fails)) form e = cc

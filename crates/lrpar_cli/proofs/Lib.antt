@@ -4,3 +4,4 @@ pub mod LawLemmas
 pub mod OutputLemmas
 pub mod EndLemmas
 pub mod TranslatingLemmas
+pub mod SampleLemmas

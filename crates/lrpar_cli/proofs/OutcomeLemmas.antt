@@ -5,14 +5,15 @@ use Rattle.lr_base.specs.Outside.{ShelfSeen, SinkSeen, IsSameShelf, Takes, Rose,
 use Rattle.lr_base.specs.Reading.{StandsUnder}
 use Rattle.writing_theory.specs.Writing.{IsWritten, all_taken, part_taken, cut, nothing_taken, front_taken}
 use Rattle.writing_theory.specs.declared.fault.WriteFault.{WriteFault}
-use Rattle.writing_theory.specs.declared.fault.WriteFault.TheVariants.{Failed, NoMemory}
 use Rattle.sheet_data.specs.Sheet.{Sheet}
 use Rattle.answer_theory.specs.declared.status.Status.{Status}
 use Rattle.answer_theory.specs.declared.status.Status.TheVariants.{Done, TextRefused, NoMemory as out_of_memory}
 use Rattle.run_theory.specs.declared.emit.Emit.{Emit}
 use Rattle.answer_theory.specs.declared.task.Task.{Task}
 use Rattle.answer_theory.specs.declared.task.Task.TheVariants.{Run}
+use Rattle.answer_theory.specs.declared.task.Seed.{Seed}
 use Rattle.answer_theory.specs.Tasks.{looking, for_parsing, Input, inputs_of, text_input}
+use Rattle.answer_theory.specs.SampleTexts.{HasNoSample}
 use Rattle.answer_theory.specs.Work.{IsWork, run_refused}
 use Rattle.answer_theory.specs.Sheets.{IsAccepted}
 use Rattle.answer_theory.specs.Answers.{AreWithin, none_left, one_within, IsPassed, Answers, sheet_refused, input_too_long, work_done, passed_here}
@@ -22,7 +23,8 @@ use Rattle.lrpar_cli.specs.declared.stop.Stop.TheVariants.{Due, Unread, Unwritte
 use Rattle.lrpar_cli.specs.Endings.{AreRead, none_read, one_read, HasRead, IsDue, IsPending, before_output, within_output, ComesOut, answered, unread, unwritten, spent}
 use Rattle.lrpar_cli.specs.Inputs.{ReadsName, HasSheet, IsSheetStop, HasInput, IsInputStop}
 use Rattle.lrpar_cli.specs.Translating.{IsTextStop}
-use Rattle.lrpar_cli.specs.Stops.{StopsEarly, said_of, status_of, writing_stop}
+use Rattle.lrpar_cli.specs.Samples.{IsSampleStop}
+use Rattle.lrpar_cli.specs.Stops.{said_of, status_of, writing_stop}
 
 take_next : {A : Type 0} (xs : List A) (k : ℕ) (x : A) → slice_get xs k ≡ Some x → take (suc k) xs ≡ take k xs ++ x ∷ []
 take_next [] k x e = cc
@@ -191,17 +193,38 @@ module _ (before after : ShelfSeen) (out_before out_after : SinkSeen) (task : Ta
   pub printed_stopped : (fault : WriteFault) → IsWritten Is out_before out_after (Err fault) → ComesOut task (name ∷ []) before after out_before out_after (said_of (Err (writing_stop fault))) (status_of (Err (writing_stop fault)))
   printed_stopped = comes_stopped before before after task (name ∷ []) [] name (first_stage before task (name ∷ [])) refl failed reads out_before out_after has.bytes has.stand fine Is printed
 
+-- what is due of such a sheet alone, and on no output
+module _ (before after : ShelfSeen) (out_before out_after : SinkSeen) (task : Task) (name : List ℕ) (sheet : Sheet) (has : HasSheet (looking task) before name sheet) (failed : Type 0) (reads : ReadsName before after name failed) (fine : ¬ failed) (alone : inputs_of task ≡ []) where
+  due_alone : (status : Status) (said : List ℕ) → IsWork sheet task [] status [] said → Takes out_before out_after [] → ComesOut task (name ∷ []) before after out_before out_after said status
+  due_alone status said work takes =
+      comes_due before before after task (name ∷ []) [] name (first_stage before task (name ∷ [])) refl failed reads out_before out_after has.bytes has.stand fine status said
+      (work_done has.accepted (subst (λ inputs. AreWithin inputs []) (sym alone) none_left) work) takes
+
+  spent_alone : Takes out_before out_after [] → ComesOut task (name ∷ []) before after out_before out_after [] out_of_memory
+  spent_alone takes = comes_spent before before after task (name ∷ []) [] name (first_stage before task (name ∷ [])) refl failed reads out_before out_after fine takes
+
+  -- a command stops where there is no sample
+  pub stops_at_sample : (seed : Seed) → ((status : Status) (said : List ℕ) → HasNoSample sheet seed status said → IsWork sheet task [] status [] said) → (stop : Stop) → IsSampleStop sheet seed stop → Takes out_before out_after []
+      → ComesOut task (name ∷ []) before after out_before out_after (said_of (Err stop)) (status_of (Err stop))
+  stops_at_sample seed works (Due status said) is takes = due_alone status said (works status said is) takes
+  stops_at_sample seed works Unread is takes = absurd is
+  stops_at_sample seed works Unwritten is takes = absurd is
+  stops_at_sample seed works Spent is takes = spent_alone takes
+
+  -- or at what its sample is
+  pub stops_at_tree : (text : List ℕ) → ((said : List ℕ) → ((emit : Emit) → IsWork sheet (Run emit) (text ∷ []) TextRefused [] said) → IsWork sheet task [] TextRefused [] said) → (stop : Stop) → IsTextStop sheet text stop → Takes out_before out_after []
+      → ComesOut task (name ∷ []) before after out_before out_after (said_of (Err stop)) (status_of (Err stop))
+  stops_at_tree text works (Due status said) is takes =
+      subst (λ s. ComesOut task (name ∷ []) before after out_before out_after said s) (sym is.0) (due_alone TextRefused said (works said (λ emit. run_refused (is.1 emit))) takes)
+  stops_at_tree text works Unread is takes = absurd is
+  stops_at_tree text works Unwritten is takes = absurd is
+  stops_at_tree text works Spent is takes = spent_alone takes
+
 -- an outcome with the stop that `?` makes
 pub comes_at : (task : Task) (names : List (List ℕ)) (before after : ShelfSeen) (out_before out_after : SinkSeen) (result : Result (Unit {0}) Stop) (stop : Stop) → IsErrAnd result (λ x. x ≡ stop)
     → ComesOut task names before after out_before out_after (said_of (Err stop)) (status_of (Err stop)) → ComesOut task names before after out_before out_after (said_of result) (status_of result)
 comes_at task names before after out_before out_after (Ok done) stop same comes = absurd same
 comes_at task names before after out_before out_after (Err x) stop same comes = subst (λ y. ComesOut task names before after out_before out_after (said_of (Err y)) (status_of (Err y))) (sym same) comes
-
--- a writing that stops a command is no early stop
-pub writing_late : (result : Result (Unit {0}) Stop) (fault : WriteFault) → IsErrAnd result (λ x. x ≡ writing_stop fault) → ¬ (StopsEarly result)
-writing_late (Ok done) fault same early = early
-writing_late (Err x) Failed same early = subst (λ y. StopsEarly (Err y)) same early
-writing_late (Err x) NoMemory same early = subst (λ y. StopsEarly (Err y)) same early
 
 -- a run stops at what its text is
 module _ (before now after : ShelfSeen) (out_before out_after : SinkSeen) (emit : Emit) (name text_name : List ℕ) (sheet : Sheet) (has : HasSheet for_parsing before name sheet) (read_failed : Type 0) (read : ReadsName before now name read_failed) (fine : ¬ read_failed) (same : IsSameShelf before now)

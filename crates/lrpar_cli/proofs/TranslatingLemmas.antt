@@ -1,18 +1,14 @@
 -- What a parse says of a text.
-use Rattle.std.proofs.Common.{◌≡◌, ◌≢◌, ℕ, zero, suc, ◌+◌, ◌<◌, ◌≤◌, ◌↔◌, ◌⊎◌, inl, inr, List, [], ◌∷◌, All, get_or, length, take, slice_get, slice_index_or, Option, Some, None, Contains, refl, sym, ap, subst, ◌∙◌, arith}
-use Rattle.grammar_data.specs.Grammar.{Grammar}
+use Rattle.std.proofs.Common.{◌≡◌, ℕ, zero, suc, inl, inr, List, [], ◌∷◌, slice_get, slice_index_or, Option, Some, None, refl, sym, ap, subst, ◌∙◌, arith}
 use Rattle.grammar_data.specs.declared.token.Token.{Token as TextToken}
-use Rattle.grammar_theory.specs.Rules.{end_mark}
-use Rattle.grammar_theory.specs.Derivations.{GoesOn}
-use Rattle.grammar_theory.specs.Trees.{Tree, ids_of}
-use Rattle.next_theory.specs.GoingOn.{token_at, AreExpected}
+use Rattle.grammar_theory.specs.Trees.{ids_of}
+use Rattle.next_theory.specs.GoingOn.{token_at}
 use Rattle.scanning_theory.specs.Lines.{line_starts}
 use Rattle.scanning_theory.specs.Scan.{AreTokens}
 use Rattle.sheet_data.specs.Sheet.{Sheet}
 use Rattle.sheet_theory.specs.ScanOrder.{scanning_of}
-use Rattle.table_data.specs.declared.act.Act.TheVariants.{Error}
-use Rattle.table_data.specs.Tables.{Tables, act_in}
-use Rattle.lawful_theory.specs.Lawful.{IsLawfulFor, IsLawful, grammar_with}
+use Rattle.table_data.specs.Tables.{Tables}
+use Rattle.lawful_theory.specs.Lawful.{IsLawfulFor}
 use Rattle.lr_machine.specs.Expected.{AreExpectedIn}
 use Rattle.plain_parse.specs.Parses.{AreTextTokens, IsTreeOf, IsWrongOf}
 use Rattle.node_store.specs.Chunks.{store_of}
@@ -20,24 +16,17 @@ use Rattle.finished_theory.specs.FinishedTrees.{IsFinished}
 use Rattle.finished_theory.proofs.FinishedLemmas.{finished}
 use Rattle.translation_theory.specs.DeclaredNames.{Row, names_of, rows_text}
 use Rattle.translation_theory.specs.Translations.{translation_by}
-use Rattle.translation_theory.specs.Diagnostics.{line_of, unexpected_text, IsDiagnostic}
+use Rattle.translation_theory.specs.Diagnostics.{line_of, unexpected_text}
 use Rattle.run_theory.specs.declared.emit.Emit.{Emit}
 use Rattle.run_theory.specs.declared.emit.Emit.TheVariants.{Output, Names}
 use Rattle.run_theory.specs.RunAnswers.{Given, Refused, IsRunAnswer, tree_given, text_refused}
-use Rattle.run_theory.specs.SheetTokens.{CountsTokens, IsTokenOf}
+use Rattle.run_theory.specs.SheetTokens.{CountsTokens}
 use Rattle.run_theory.proofs.TokenLemmas.{sheet_tokens}
 use Rattle.answer_theory.specs.declared.status.Status.TheVariants.{TextRefused}
 use Rattle.lrpar_cli.specs.declared.stop.Stop.{Stop}
-use Rattle.lrpar_cli.specs.declared.stop.Stop.TheVariants.{Due, Spent}
 use Rattle.lrpar_cli.specs.Stops.{IsDueStop}
 use Rattle.lrpar_cli.specs.Translating.{HasTextTree, IsTextStop, line_in, id_in}
 use Rattle.lrpar_cli.specs.declared.translating.TextTree.{TextTree}
-
--- tables that are lawful for a grammar are lawful
-pub lawful_of : (g : Grammar) (t : Tables) → IsLawfulFor g t → IsLawful t
-lawful_of g t lawful =
-    let same : g ≡ grammar_with t g.start = λ i. record { tokens = sym lawful.tokens i; names = sym lawful.names i; rules = sym lawful.rules i; start = g.start } in
-    (g.start, subst (λ h. IsLawfulFor h t) same lawful)
 
 -- the tokens of a text are tokens of the tables and bad bytes
 pub text_tokens : (sheet : Sheet) (t : Tables) (text : List ℕ) (tokens : List TextToken) → t.tokens ≡ sheet.grammar.tokens → CountsTokens sheet → AreTokens (scanning_of sheet) text tokens → AreTextTokens t tokens

@@ -83,6 +83,8 @@ pub data IsSaid (before after : SinkSeen) (said : List ℕ) (status : Status) : 
   said_in_part : Fails before after said → IsSaid before after said status WriteFault
 
 -- the ways in which a call may end
-pub data IsEnding (words : List (List ℕ)) (before after : Outside) (result : Status) : Type 0 where
-  with_bad_words : IsBadWords words → HasRead before.shelf after.shelf [] → Takes before.out after.out [] → IsSaid before.err after.err bad_words_text BadWords result → IsEnding words before after result
-  with_task : {task : Task} {names : List (List ℕ)} {said : List ℕ} {status : Status} → HasForm words task names → ComesOut task names before.shelf after.shelf before.out after.out said status → IsSaid before.err after.err said status result → IsEnding words before after result
+pub data IsEnding (words : List (List ℕ)) (before after : Outside) : Status → Type 0 where
+  with_bad_words : {result : Status} → IsBadWords words → HasRead before.shelf after.shelf [] → Takes before.out after.out [] → IsSaid before.err after.err bad_words_text BadWords result → IsEnding words before after result
+  -- memory runs out while the words are read
+  without_memory : HasRead before.shelf after.shelf [] → Takes before.out after.out [] → Takes before.err after.err [] → IsEnding words before after NoMemory
+  with_task : {task : Task} {names : List (List ℕ)} {said : List ℕ} {status result : Status} → HasForm words task names → ComesOut task names before.shelf after.shelf before.out after.out said status → IsSaid before.err after.err said status result → IsEnding words before after result

@@ -2,8 +2,11 @@
 use Rattle.std.specs.Prelude.{◌≡◌, ◌≢◌, ℕ, ◌+◌, ◌<◌, ◌⊎◌, List, [], length, All, IsTrue, IsSomeAnd}
 use Rattle.lr_base.specs.Outside.{ShelfSeen, SinkSeen, Rose, Takes, is_listed}
 use Rattle.answer_theory.specs.declared.status.Status.{Status}
-use Rattle.answer_theory.specs.declared.status.Status.TheVariants.{BadWords, ReadFault, WriteFault, NoMemory}
+use Rattle.answer_theory.specs.declared.status.Status.TheVariants.{TextRefused, BadWords, ReadFault, WriteFault, NoMemory}
+use Rattle.run_theory.specs.declared.emit.Emit.{Emit}
+use Rattle.answer_theory.specs.declared.task.Seed.{Seed}
 use Rattle.answer_theory.specs.declared.task.Task.{Task}
+use Rattle.answer_theory.specs.declared.task.Task.TheVariants.{Load}
 use Rattle.word_theory.specs.Words.{HasForm, IsBadWords}
 use Rattle.lrpar_cli.specs.Endings.{Outside, Stays, IsDue, IsEnding, HasRead, bad_words_text, read_fault_text}
 
@@ -51,3 +54,7 @@ pub record HaveRoom (before : Outside) (words : List (List ℕ)) : Type 0 where
 -- over sinks with such room there is no write fault
 abbrev pub RoomLaw : Type 0
 RoomLaw = (words : List (List ℕ)) (before after : Outside) (status : Status) → IsEnding words before after status → Stays before after → HaveRoom before words → status ≢ WriteFault
+
+-- a sample text is never refused
+abbrev pub LoadedLaw : Type 0
+LoadedLaw = (words names : List (List ℕ)) (seed : Seed) (emit : Emit) (before after : Outside) (status : Status) → IsEnding words before after status → HasForm words (Load seed emit) names → status ≢ TextRefused

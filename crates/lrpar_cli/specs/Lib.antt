@@ -3,3 +3,4 @@ pub mod Stops
 pub mod Inputs
 pub mod Laws
 pub mod Translating
+pub mod Samples

@@ -5,7 +5,7 @@ ghost use Rattle.word_theory.specs.Words.{IsBadWords};
 use crate::commands::run;
 use crate::saying::{end, say};
 use answer_theory::Status;
-use command_words::command_of;
+use command_words::{WordFault, command_of};
 use lr_base::{Gate, Shelf, Sink};
 use std::alloc::Global;
 use std::thread::Threads;
@@ -18,7 +18,8 @@ const BAD_WORDS: &[u8] = b"bad words\n";
 /// The call `ends` in one of these ways: answered, where each sink took exactly what is due to it for the bytes that
 /// were read; with a read fault or a write fault, each with its cause; or with want of memory, where no call failed. Of
 /// the names of its command it begins a first part, in order, and no others, and no more than the answer needs. Where
-/// the words are of no form, nothing is begun or read and the output isn't touched; no other call ends so. An answer
+/// the words are of no form, nothing is begun or read and the output isn't touched, also where memory runs out over them; no
+/// other call ends with bad words. An answer
 /// that isn't on the output leaves that untouched. `rt` and `gate` are not used yet.
 pub fn lrpar<R: Threads + Sync, S: Shelf, O: Sink, E: Sink, G: Gate + Sync>(
     _rt: &R,
@@ -39,12 +40,13 @@ pub fn lrpar<R: Threads + Sync, S: Shelf, O: Sink, E: Sink, G: Gate + Sync>(
 
     ensures words { result ≡ Status.BadWords → IsBadWords (map string_bytes words.now) }
     ensures bad_words { IsBadWords (map string_bytes words.now)
-        → ((result ≡ Status.BadWords) ⊎ (result ≡ Status.WriteFault)) × (shelf.new ≡ shelf.old) × (out.new ≡ out.old) }
+        → ((result ≡ Status.BadWords) ⊎ (result ≡ Status.WriteFault) ⊎ (result ≡ Status.NoMemory)) × (shelf.new ≡ shelf.old) × (out.new ≡ out.old) }
     ensures early { result ≢ Status.Done → result ≢ Status.WriteFault → result ≢ Status.NoMemory → out.new ≡ out.old }
     ensures silent { (result ≡ Status.Done) ⊎ (result ≡ Status.NoMemory) → err.new ≡ err.old }
 {
-    match command_of(words) {
-        Some(command) => end(err, run(alloc, command, shelf, out)),
-        None => say(err, BAD_WORDS, Status::BadWords),
+    match command_of(alloc, words) {
+        Ok(command) => end(err, run(alloc, command, shelf, out)),
+        Err(WordFault::BadWords) => say(err, BAD_WORDS, Status::BadWords),
+        Err(WordFault::NoMemory) => Status::NoMemory,
     }
 }

@@ -1,15 +1,16 @@
-ghost use Rattle.std.specs.Prelude.{◌≡◌, ◌≢◌, suc, [], ◌∷◌, length, map, string_bytes};
+ghost use Rattle.std.specs.Prelude.{◌≡◌, [], ◌∷◌};
 ghost use Rattle.lr_base.specs.Outside.{IsSameShelf, IsSameSink};
-ghost use Rattle.answer_theory.specs.declared.task.Task.TheVariants.{Run};
-ghost use Rattle.answer_theory.specs.Tasks.{inputs_of};
+ghost use Rattle.answer_theory.specs.declared.task.Task.TheVariants.{Run, Gen, Load};
+ghost use Rattle.command_words.specs.Commands.{names_of, task_of};
 ghost use Rattle.lrpar_cli.specs.Endings.{ComesOut};
 ghost use Rattle.lrpar_cli.specs.Stops.{StopsEarly, said_of, status_of};
 
 use crate::inputs::{read_parsing, read_scanned, read_text};
-use crate::outputs::{write_layout, write_states, write_tokens};
+use crate::outputs::{write_layout, write_states, write_text, write_tokens};
+use crate::samples::make_sample;
 use crate::stop::Stop;
 use crate::translating::{parse_text, write_tree};
-use answer_theory::Task;
+use answer_theory::{Seed, Task};
 use command_words::Command;
 use lr_base::{Shelf, Sink};
 use run_theory::Emit;
@@ -85,6 +86,44 @@ fn translate_text<S: Shelf, O: Sink>(
     Ok(())
 }
 
+/// `gen SHEET`: reads the sheet and writes its sample text.
+fn give_sample<S: Shelf, O: Sink>(
+    alloc: Global,
+    seed: Seed,
+    sheet: &str,
+    shelf: &mut S,
+    out: &mut O,
+) -> Result<(), Stop>
+    ensures comes { ComesOut (Gen seed) (sheet.now ∷ []) (S.seen shelf.old) (S.seen shelf.new) (O.seen out.old) (O.seen out.new) (said_of result) (status_of result) }
+    ensures stays { IsSameShelf (S.seen shelf.old) (S.seen shelf.new) × IsSameSink (O.seen out.old) (O.seen out.new) }
+    ensures early { StopsEarly result → out.new ≡ out.old }
+{
+    let parsing = read_parsing(alloc, shelf, sheet)?;
+    let text = make_sample(alloc, &parsing, seed)?;
+    write_text(&text, out)?;
+    Ok(())
+}
+
+/// `load SHEET`: reads the sheet, and writes the translation of its sample text, or the names that this declares.
+fn translate_sample<S: Shelf, O: Sink>(
+    alloc: Global,
+    seed: Seed,
+    emit: Emit,
+    sheet: &str,
+    shelf: &mut S,
+    out: &mut O,
+) -> Result<(), Stop>
+    ensures comes { ComesOut (Load seed emit) (sheet.now ∷ []) (S.seen shelf.old) (S.seen shelf.new) (O.seen out.old) (O.seen out.new) (said_of result) (status_of result) }
+    ensures stays { IsSameShelf (S.seen shelf.old) (S.seen shelf.new) × IsSameSink (O.seen out.old) (O.seen out.new) }
+    ensures early { StopsEarly result → out.new ≡ out.old }
+{
+    let parsing = read_parsing(alloc, shelf, sheet)?;
+    let text = make_sample(alloc, &parsing, seed)?;
+    let tree = parse_text(alloc, &parsing, &text)?;
+    write_tree(alloc, emit, &parsing, &text, &tree, out)?;
+    Ok(())
+}
+
 /// Does what a command asks for.
 pub fn run<S: Shelf, O: Sink>(
     alloc: Global,
@@ -92,16 +131,20 @@ pub fn run<S: Shelf, O: Sink>(
     shelf: &mut S,
     out: &mut O,
 ) -> Result<(), Stop>
-    requires { length command.names.now ≡ suc (length (inputs_of command.task)) }
-    ensures comes { ComesOut command.entry.task (map string_bytes command.entry.names.now) (S.seen shelf.old) (S.seen shelf.new) (O.seen out.old) (O.seen out.new) (said_of result) (status_of result) }
+    ensures comes { ComesOut (task_of command.entry) (names_of command.entry) (S.seen shelf.old) (S.seen shelf.new) (O.seen out.old) (O.seen out.new) (said_of result) (status_of result) }
     ensures stays { IsSameShelf (S.seen shelf.old) (S.seen shelf.new) × IsSameSink (O.seen out.old) (O.seen out.new) }
     ensures early { StopsEarly result → out.new ≡ out.old }
 {
-    let Command { task, names } = command;
-    match task {
-        Task::Tokens => list_tokens(alloc, &names[0], &names[1], shelf, out),
-        Task::Check => check_sheet(alloc, &names[0], shelf, out),
-        Task::Tables => print_tables(alloc, &names[0], shelf, out),
-        Task::Run(emit) => translate_text(alloc, emit, &names[0], &names[1], shelf, out),
+    match command {
+        Command::Tokens { sheet, text } => list_tokens(alloc, sheet, text, shelf, out),
+        Command::Check { sheet } => check_sheet(alloc, sheet, shelf, out),
+        Command::Tables { sheet } => print_tables(alloc, sheet, shelf, out),
+        Command::Run { emit, sheet, text } => {
+            translate_text(alloc, emit, sheet, text, shelf, out)
+        }
+        Command::Gen { seed, sheet } => give_sample(alloc, seed, sheet, shelf, out),
+        Command::Load { seed, emit, sheet } => {
+            translate_sample(alloc, seed, emit, sheet, shelf, out)
+        }
     }
 }

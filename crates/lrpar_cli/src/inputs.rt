@@ -50,10 +50,7 @@ fn with_scanner(alloc: Global, sheet: Sheet) -> Result<Scanned, Stop>
     ensures ready { IfOk result (λ scanned. IsReady scanned) }
     ensures refused { IfErr result (λ stop. IsStatesStop sheet stop) }
 {
-    let Ok(order) = sheet.scan_order() else {
-        return Err(Stop::Spent);
-    };
-    let ScanOrder { patterns, means } = order;
+    let ScanOrder { patterns, means } = sheet.scan_order()?;
     match Scanner::build(alloc, &patterns) {
         Ok(scanner) => Ok(Scanned {
             sheet,

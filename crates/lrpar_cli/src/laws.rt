@@ -1,4 +1,4 @@
-ghost use Rattle.lrpar_cli.specs.Laws.{CompleteLaw, OneDueLaw, RoomLaw, ServedLaw};
+ghost use Rattle.lrpar_cli.specs.Laws.{CompleteLaw, LoadedLaw, OneDueLaw, RoomLaw, ServedLaw};
 
 /// Over a shelf that tells its bytes the words determine what is due: which names are read, the status, and the bytes
 /// that both outputs take.
@@ -12,4 +12,9 @@ pub fn complete_law()
     ensures complete { CompleteLaw }
     ensures served { ServedLaw }
     ensures room { RoomLaw }
+{}
+
+/// A call that runs a sample text never ends with the refusal of a text.
+pub fn loaded_law()
+    ensures { LoadedLaw }
 {}

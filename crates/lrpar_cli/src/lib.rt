@@ -6,10 +6,11 @@ mod commands;
 mod inputs;
 mod laws;
 mod outputs;
+mod samples;
 mod saying;
 mod stop;
 mod translating;
 
 pub use answer_theory::Status;
 pub use call::lrpar;
-pub use laws::{complete_law, one_due_law};
+pub use laws::{complete_law, loaded_law, one_due_law};

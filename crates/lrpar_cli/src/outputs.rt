@@ -67,6 +67,15 @@ pub fn write_layout<O: Sink>(alloc: Global, sheet: &Sheet, out: &mut O) -> Resul
     Ok(())
 }
 
+/// Writes a text as it is.
+pub fn write_text<O: Sink>(text: &[u8], out: &mut O) -> Result<(), WriteFault>
+    ensures written { IsWritten (λ given. given ≡ text.now) (O.seen out.old) (O.seen out.new) result }
+    ensures same { IsSameSink (O.seen out.old) (O.seen out.new) }
+{
+    write_all(out, text)?;
+    Ok(())
+}
+
 /// Writes the states of a sheet's grammar, with their items and what they do.
 pub fn write_states<O: Sink>(
     alloc: Global,

@@ -14,4 +14,6 @@ mod program;
 #[cfg(test)]
 mod runs;
 #[cfg(test)]
+mod samples;
+#[cfg(test)]
 mod table_calls;

@@ -275,7 +275,7 @@ static SHEETS: [Row; 13] = [
 ];
 
 /// Words of no form. The first call of the shelf and of the output would fail, so a call that is made ends otherwise.
-static WORDS: [Row; 11] = [
+static WORDS: [Row; 13] = [
     Row {
         name: "no words",
         words: "",
@@ -319,8 +319,8 @@ static WORDS: [Row; 11] = [
         ..BAD_WORDS
     },
     Row {
-        name: "tokens s -",
-        words: "tokens s -",
+        name: "tokens s --",
+        words: "tokens s --",
         shelf_fails: &[1],
         out_fails: &[1],
         ..BAD_WORDS
@@ -328,6 +328,20 @@ static WORDS: [Row; 11] = [
     Row {
         name: "Tokens s t",
         words: "Tokens s t",
+        shelf_fails: &[1],
+        out_fails: &[1],
+        ..BAD_WORDS
+    },
+    Row {
+        name: "check --help",
+        words: "check --help",
+        shelf_fails: &[1],
+        out_fails: &[1],
+        ..BAD_WORDS
+    },
+    Row {
+        name: "tokens s t --emit names",
+        words: "tokens s t --emit names",
         shelf_fails: &[1],
         out_fails: &[1],
         ..BAD_WORDS

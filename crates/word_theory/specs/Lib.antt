@@ -1,1 +1,4 @@
+pub mod Arguments
+pub mod Values
 pub mod Words
+pub mod Laws

@@ -2,9 +2,10 @@
 //! and laws alone.
 #![tactic(auto)]
 
-ghost use Rattle.word_theory.specs.Words.{OneFormLaw};
+mod command_name;
+mod laws;
+mod limits;
 
-/// Words are of one form at most.
-pub fn one_form_law()
-    ensures { OneFormLaw }
-{}
+pub use command_name::CommandName;
+pub use laws::one_form_law;
+pub use limits::{NUMBER_DIGITS, SAMPLE_SIZE};

@@ -1,0 +1,5 @@
+//! Worked rows of shortest words and of sample texts.
+#![tactic(auto)]
+
+#[cfg(test)]
+mod samples;
