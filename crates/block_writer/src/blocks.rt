@@ -1,4 +1,4 @@
-ghost use Rattle.std.specs.Prelude.{◌≡◌, [], OnErr, OnOk};
+ghost use Rattle.std.specs.Prelude.{◌≡◌, ◌<◌, ◌≤◌, [], length, IsErr, OnErr, OnOk};
 ghost use Rattle.lr_base.specs.Outside.{Fails, IsSameSink, Takes};
 ghost use Rattle.writing_theory.specs.Writing.{Passes};
 
@@ -6,7 +6,7 @@ use lr_base::{Failed, Sink, write_all};
 use std::alloc::Global;
 
 /// How many bytes are gathered before they are written.
-const BLOCK_BYTES: usize = 65_536;
+pub const BLOCK_BYTES: usize = 65_536;
 
 /// A text on its way to a sink: its bytes are gathered, and written in blocks.
 #[derive(Drop)]
@@ -25,10 +25,14 @@ impl Blocks {
         }
     }
 
-    /// Writes what is gathered, where that is many bytes; where it is few, they stay.
+    /// Writes what is gathered, where that is a block or more; where it is less, it stays. After a failure it is still there.
     pub fn pass<O: Sink>(&mut self, out: &mut O) -> Result<(), Failed>
         ensures passed { OnOk result (Passes (O.seen out.old) (O.seen out.new) self.old.gathered.items self.new.gathered.items []) }
         ensures failed { OnErr result (Fails (O.seen out.old) (O.seen out.new) self.old.gathered.items) }
+        ensures block { BLOCK_BYTES ≤ length self.old.gathered.items → OnOk result (self.new.gathered.items ≡ []) }
+        ensures less { length self.old.gathered.items < BLOCK_BYTES
+            → (result ≡ Ok tt) × (self.new.gathered.items ≡ self.old.gathered.items) × (out.new ≡ out.old) }
+        ensures kept { IsErr result → self.new.gathered.items ≡ self.old.gathered.items }
         ensures same { IsSameSink (O.seen out.old) (O.seen out.new) }
     {
         if self.gathered.len() >= BLOCK_BYTES {

@@ -4,6 +4,6 @@
 mod blocks;
 mod number;
 
-pub use blocks::Blocks;
+pub use blocks::{BLOCK_BYTES, Blocks};
 pub use number::push_number;
 pub use writing_theory::WriteFault;

@@ -2,7 +2,6 @@
 use Rattle.std.proofs.Common.{◌≡◌, ℕ, List, [], ◌∷◌, ◌++◌, map, codes, sym, refl, ap, ◌∙◌, append_assoc}
 use Rattle.std.specs.List.{flat_map}
 use Rattle.std.specs.Fmt.{decimal}
-use Rattle.grammar_data.specs.declared.rule.Sym.TheVariants.{Token}
 use Rattle.sheet_data.specs.Sheet.{Sheet}
 use Rattle.sheet_theory.specs.Names.{token_names}
 use Rattle.translation_theory.specs.Diagnostics.{listed, unexpected_text}

@@ -1,7 +1,6 @@
-use Rattle.std.proofs.Common.{refl, sym, ap, ◌∙◌, ◌++◌, take, [], append-nil, rules, arith, ℕ, ◌≡◌, ◌+◌, ◌-◌, slice_get, Some, subst}
+use Rattle.std.proofs.Common.{refl, sym, ap, ◌∙◌, [], append-nil, rules, arith, ◌-◌}
 use Rattle.std.proofs.lemmas.List.{take_all}
-use Rattle.translation_theory.specs.DeclaredNames.{row_text, rows_text}
-use Rattle.name_table.specs.Tallies.{row_seen}
+use Rattle.translation_theory.specs.DeclaredNames.{rows_text}
 use Rattle.writing_theory.specs.Writing.{IsWritten, all_taken, part_taken}
 use Rattle.writing_theory.specs.declared.fault.WriteFault.TheVariants.{Failed, NoMemory}
 use Rattle.writing_theory.proofs.BlockLemmas.{passes_more, fails_behind, all_passed, cut_behind, err_at}

@@ -1,4 +1,4 @@
-use Rattle.std.proofs.Common.{ap, refl, arith, ◌≡◌, ◌≢◌, List, ℕ, [], ◌∷◌}
+use Rattle.std.proofs.Common.{refl, arith, ◌≡◌, ◌≢◌, ℕ, [], ◌∷◌}
 use Rattle.pattern_data.proofs.ByteLemmas.{IsBitSet-no_word}
 use Rattle.sheet_rows.proofs.scanning.upper_set.Goals as goal
 
