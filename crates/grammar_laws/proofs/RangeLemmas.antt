@@ -1,5 +1,5 @@
 -- The symbols of a grammar's rules are in range.
-use Rattle.std.proofs.Common.{◌≡◌, ℕ, List, [], ◌∷◌, All, subst}
+use Rattle.std.proofs.Common.{ℕ, List, [], ◌∷◌, All, subst}
 use Rattle.std.proofs.lemmas.List.Elements.{All-get_or, All-head, All-tail}
 use Rattle.std.proofs.lemmas.Option.{slice_get_within, get_or_from_slice_get}
 use Rattle.grammar_data.specs.declared.rule.Sym.{Sym}
