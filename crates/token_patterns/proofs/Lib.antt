@@ -1,5 +1,6 @@
 pub mod AheadLemmas
 pub mod ConditionLemmas
+pub mod FoundLemmas
 pub mod KeyLemmas
 pub mod LongestLemmas
 pub mod SearchLemmas

@@ -5,6 +5,7 @@ use Rattle.position_theory.specs.Positions.{ReachesOne, Ends}
 use Rattle.position_theory.specs.States.{HaveSameSet, AreStates}
 use Rattle.scanning_theory.specs.declared.limits.TheConstants.{PATTERNS}
 use Rattle.token_patterns.specs.Ahead.{no_rank}
+use Rattle.token_patterns.specs.declared.walk.Found.{Found}
 
 -- the cell of a state and a byte is number 256 * state + byte
 pub record Table : Type 0 where
@@ -57,3 +58,7 @@ pub record IsTable (table : Table) : Type 0 where
 -- the match when a state was reached by a string of this length: the one before, or this one where a rank ends
 abbrev pub EndsMatch : ℕ → ℕ → Option (ℕ × ℕ) → Option (ℕ × ℕ) → Type 0
 EndsMatch end len before result = ((end ≡ no_rank) × (result ≡ before)) ⊎ ((end ≢ no_rank) × (result ≡ Some (len, end)))
+
+-- the match that a walk keeps when a state was reached behind this place: the one before, or this one where a rank ends
+abbrev pub EndsHere : ℕ → ℕ → Found → Found → Type 0
+EndsHere end behind before result = ((end ≡ no_rank) × (result ≡ before)) ⊎ ((end ≢ no_rank) × (result ≡ record { behind = behind; end = end }))

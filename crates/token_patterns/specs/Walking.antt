@@ -1,11 +1,12 @@
 -- How far a scan has come, what it has found by then, and the pairs of a place and a state that lead to no match.
-use Rattle.std.specs.Prelude.{◌≡◌, ℕ, ◌+◌, ◌-◌, ◌<◌, ◌≤◌, ◌↔◌, true, false, List, [], ◌++◌, length, take, drop, slice_get, Option, Some, MatchOption, IfSome}
+use Rattle.std.specs.Prelude.{◌≡◌, ℕ, ◌+◌, ◌-◌, ◌^◌, ◌<◌, ◌≤◌, ◌↔◌, true, false, List, [], ◌++◌, length, take, drop, slice_get, Option, Some, None, MatchOption, IfSome}
 use Rattle.dead_ends.specs.Pairs.{Pairs, Keeps}
 use Rattle.pattern_data.specs.declared.pattern.Pattern.{Pattern}
 use Rattle.pattern_data.specs.Language.{Matches}
 use Rattle.position_theory.specs.States.{HaveSameSet}
 use Rattle.scanning_theory.specs.Scan.{IsMatch}
-use Rattle.token_patterns.specs.Scanner.{Table, IsScannerOf}
+use Rattle.token_patterns.specs.Scanner.{Table, IsScannerOf, EndsMatch}
+use Rattle.token_patterns.specs.declared.walk.Found.{Found}
 use Rattle.token_patterns.specs.declared.walk.Walk.{Walk}
 
 -- the bytes that were read
@@ -35,6 +36,7 @@ pub record IsWalk (table : Table) (text : List ℕ) (from : ℕ) (walk : Walk) :
   pub begun : from ≤ walk.at
   pub inside : walk.at ≤ length text
   pub state : walk.state < length table.ends
+  pub small : walk.state < 2 ^ 16
   pub some : IfSome walk.best (λ found. 0 < found.0)
   pub within : IfSome walk.best (λ found. from + found.0 ≤ walk.at)
   pub ranked : IfSome walk.best (λ found. found.1 < table.ranks)
@@ -51,3 +53,13 @@ IsDeadEnd table text place state = (patterns : List Pattern) (s : IsScannerOf ta
 -- each pair that is kept is a dead end
 abbrev pub AreDeadEnds : Table → List ℕ → Pairs → Type 0
 AreDeadEnds table text pairs = (place state : ℕ) → Keeps pairs place state → IsDeadEnd table text place state
+
+-- the match that the loop of a walk keeps: it is the best of what was read before the place
+pub record IsFound (table : Table) (text : List ℕ) (from at : ℕ) (found : Found) : Type 0 where
+  pub behind : from ≤ found.behind
+  pub best : Option (ℕ × ℕ)
+  pub is : EndsMatch found.end (found.behind - from) None best
+  pub some : IfSome best (λ one. 0 < one.0)
+  pub within : IfSome best (λ one. from + one.0 ≤ at)
+  pub ranked : IfSome best (λ one. one.1 < table.ranks)
+  pub longest : (patterns : List Pattern) → IsScannerOf table patterns → IsBest patterns text from (at - from) best

@@ -1,4 +1,4 @@
-ghost use Rattle.std.specs.Prelude.{◌≡◌, ◌≢◌, ℕ, ◌+◌, ◌*◌, ◌<◌, ◌≤◌, true, false, List, length, slice_index, MatchOption, IfOk, IfErr, IfSome};
+ghost use Rattle.std.specs.Prelude.{◌≡◌, ◌≢◌, ℕ, ◌+◌, ◌-◌, ◌*◌, ◌^◌, ◌<◌, ◌≤◌, true, false, List, length, slice_index, MatchOption, IfOk, IfErr, IfSome};
 ghost use Rattle.pattern_data.specs.declared.pattern.Pattern.{Pattern};
 ghost use Rattle.position_theory.specs.States.{HasMoreStates};
 ghost use Rattle.scanning_theory.specs.Scan.{HasNoMatch, IsLongest};
@@ -6,12 +6,12 @@ ghost use Rattle.scanning_theory.specs.declared.limits.TheConstants.{STATES};
 ghost use Rattle.scanning_theory.specs.Scannable.{IsScannable};
 ghost use Rattle.lr_base.specs.declared.limits.TheConstants.{TEXT_BYTES};
 ghost use Rattle.token_patterns.specs.Ahead.{no_rank};
-ghost use Rattle.token_patterns.specs.Scanner.{EndsMatch, IsScannerOf, IsTable, ranks_of};
+ghost use Rattle.token_patterns.specs.Scanner.{EndsHere, EndsMatch, IsScannerOf, IsTable, ranks_of};
 
 use crate::ahead::NO_RANK;
 use crate::building::{Search, search_states};
 use crate::fault::ScannerFault;
-use crate::walk::Walk;
+use crate::walk::{Found, Walk};
 use dead_ends::DeadEnds;
 use pattern_data::Pattern;
 use std::alloc::Global;
@@ -46,7 +46,7 @@ impl Model for Scanner {
 }
 
 impl Scanner {
-    ghost use Rattle.dead_ends.specs.Pairs.{AreOfOneLine};
+    ghost use Rattle.dead_ends.specs.Pairs.{AreOfOneLine, Keeps};
     ghost use Rattle.token_patterns.specs.Walking.{AreDeadEnds, IsWalk};
 
     /// The scanner of these patterns; `TooManyStates` exactly where they have more than 20,000 scanner states.
@@ -84,7 +84,7 @@ impl Scanner {
         ensures cell { result ≡ slice_index self.now.cells (256 * state + byte) }
         ensures inside { result < length self.now.ends }
     {
-        step(&self.cells, state, byte)
+        step(&self.cells, usize::from(state), byte) as u16
     }
 
     /// The least rank whose pattern ends at a state; none where no pattern does.
@@ -131,6 +131,7 @@ impl Scanner {
         ensures ranked { IfSome result (λ found. found.1 < ranks_of self.now) }
         ensures dead { AreDeadEnds self.now text.now dead_ends.new }
         ensures line { AreOfOneLine dead_ends.old dead_ends.new }
+        ensures kept { (place state : ℕ) → Keeps dead_ends.old place state → Keeps dead_ends.new place state }
     {
         let near = near_end(text, from, dead_ends);
         let walk = self.walk(text, from, self.start(from), near);
@@ -169,24 +170,24 @@ impl Scanner {
     {
         let cells = self.cells.as_slice();
         let ends = self.ends.as_slice();
-        let mut state = walk.state;
-        let mut best = walk.best;
+        let mut state = usize::from(walk.state);
+        let mut found = found_of(from, walk.best);
         for at in walk.at..to {
             state = step(cells, state, text[at]);
             if state == 0 {
                 return Walk {
                     at,
-                    state,
-                    best,
+                    state: 0,
+                    best: best_of(from, found),
                     ended: true,
                 };
             }
-            best = ended(ends, state, at + 1 - from, best);
+            found = ended(ends, state, at + 1, found);
         }
         Walk {
             at: to,
-            state,
-            best,
+            state: state as u16,
+            best: best_of(from, found),
             ended: false,
         }
     }
@@ -211,6 +212,7 @@ impl Scanner {
         ensures ranked { IfSome result (λ found. found.1 < ranks_of self.now) }
         ensures dead { AreDeadEnds self.now text.now dead_ends.new }
         ensures line { AreOfOneLine dead_ends.old dead_ends.new }
+        ensures kept { (place state : ℕ) → Keeps dead_ends.old place state → Keeps dead_ends.new place state }
     {
         let far = self.walk_far(text, from, walk, dead_ends);
         self.keep_passed(text, from, far, dead_ends);
@@ -267,6 +269,7 @@ impl Scanner {
         requires ended { far.ended ≡ true }
         ensures dead { AreDeadEnds self.now text.now dead_ends.new }
         ensures line { AreOfOneLine dead_ends.old dead_ends.new }
+        ensures kept { (place state : ℕ) → Keeps dead_ends.old place state → Keeps dead_ends.new place state }
     {
         let beyond = from + matched(far.best) + FAR;
         if far.at <= beyond {
@@ -300,6 +303,7 @@ impl Scanner {
         ensures beyond { IfSome result (λ next. IfSome far.best (λ found. from + found.0 ≤ next.at)) }
         ensures dead { AreDeadEnds self.now text.now dead_ends.new }
         ensures line { AreOfOneLine dead_ends.old dead_ends.new }
+        ensures kept { (place state : ℕ) → Keeps dead_ends.old place state → Keeps dead_ends.new place state }
     {
         let mark = dead_ends.next_mark(walk.at);
         if walk.ended || mark > far.at {
@@ -318,12 +322,13 @@ impl Scanner {
 
 /// Up to where a walk goes before it asks for dead ends: at once where there are some, else after a token of usual length.
 fn near_end(text: &[u8], from: usize, dead_ends: &DeadEnds) -> usize
-    requires { from ≤ length text.now }
+    requires from { from ≤ length text.now }
+    requires small { length text.now ≤ TEXT_BYTES }
     ensures from { from ≤ result }
     ensures inside { result ≤ length text.now }
 {
     if dead_ends.is_empty() {
-        text.len().min(from.saturating_add(FAR))
+        text.len().min(from + FAR)
     } else {
         from
     }
@@ -339,23 +344,55 @@ fn matched(best: Option<(usize, u32)>) -> usize
     }
 }
 
-/// The state to which the byte leads.
-fn step(cells: &[u16], state: u16, byte: u8) -> u16
-    requires { 256 * state + byte < length cells.now }
-    ensures { result ≡ slice_index cells.now (256 * state + byte) }
+/// A match from a place on, as the loop of a walk keeps it.
+fn found_of(from: usize, best: Option<(usize, u32)>) -> Found
+    requires inside { IfSome best (λ found. from + found.0 ≤ usize.MAX) }
+    requires ranked { IfSome best (λ found. found.1 < no_rank) }
+    ensures found { EndsMatch result.end (result.behind - from) None best }
+    ensures behind { from ≤ result.behind }
 {
-    cells[usize::from(state) * BYTES + usize::from(byte)]
+    match best {
+        Some((len, rank)) => Found {
+            behind: from + len,
+            end: rank as u16,
+        },
+        None => Found {
+            behind: from,
+            end: NO_RANK,
+        },
+    }
 }
 
-/// The match of this length, where a pattern ends at the state, or else the one before.
-fn ended(ends: &[u16], state: u16, len: usize, before: Option<(usize, u32)>) -> Option<(usize, u32)>
-    requires { state < length ends.now }
-    ensures { EndsMatch (slice_index ends.now state) len before result }
+/// The match from a place on that the loop of a walk has kept: its length, and the least rank that has it.
+fn best_of(from: usize, found: Found) -> Option<(usize, u32)>
+    requires { from ≤ found.behind }
+    ensures { EndsMatch found.end (found.behind - from) None result }
 {
-    let end = ends[usize::from(state)];
+    if found.end == NO_RANK {
+        None
+    } else {
+        Some((found.behind - from, u32::from(found.end)))
+    }
+}
+
+/// The state to which the byte leads.
+fn step(cells: &[u16], state: usize, byte: u8) -> usize
+    requires { 256 * state + byte < length cells.now }
+    ensures cell { result ≡ slice_index cells.now (256 * state + byte) }
+    ensures small { result < 2 ^ 16 }
+{
+    usize::from(cells[state * BYTES + usize::from(byte)])
+}
+
+/// The match up to this place, where a pattern ends at the state, or else the one before.
+fn ended(ends: &[u16], state: usize, behind: usize, before: Found) -> Found
+    requires { state < length ends.now }
+    ensures { EndsHere (slice_index ends.now state) behind before result }
+{
+    let end = ends[state];
     if end == NO_RANK {
         before
     } else {
-        Some((len, u32::from(end)))
+        Found { behind, end }
     }
 }

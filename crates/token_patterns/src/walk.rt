@@ -11,3 +11,12 @@ pub struct Walk {
     /// Whether no longer match comes.
     pub ended: bool,
 }
+
+/// The longest match that a walk has found, as its loop keeps it.
+#[derive(Clone, Copy, Debug)]
+pub struct Found {
+    /// The place behind it; where the walk began, where there is none.
+    pub behind: usize,
+    /// What the table says of the state there: the least rank that ends, or that none does.
+    pub end: u16,
+}

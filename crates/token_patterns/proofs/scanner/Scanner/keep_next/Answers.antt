@@ -1,3 +1,4 @@
+use Rattle.std.proofs.Common.{inl}
 use Rattle.dead_ends.specs.Pairs.{CanKeep}
 use Rattle.token_patterns.proofs.WalkLemmas.{dead_end_passed, dead_ends_more, ends_before}
 use Rattle.token_patterns.proofs.scanner.Scanner.keep_next.Goals as goal
@@ -14,3 +15,9 @@ returns-in-Ok-clause-dead c =
 
 pub returns-in-Err-clause-dead : goal.returns-in-Err-clause-dead
 returns-in-Err-clause-dead c = λ p s keeps. c.requires.dead p s ((c.in-Err.ensures.err p s).0 keeps)
+
+pub returns-in-Ok-clause-kept : goal.returns-in-Ok-clause-kept
+returns-in-Ok-clause-kept c = λ p s keeps. (c.in-Ok.ensures.ok p s).1 (inl keeps)
+
+pub returns-in-Err-clause-kept : goal.returns-in-Err-clause-kept
+returns-in-Err-clause-kept c = λ p s keeps. (c.in-Err.ensures.err p s).1 keeps

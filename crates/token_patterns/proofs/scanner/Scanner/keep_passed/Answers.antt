@@ -8,4 +8,8 @@ loop-next-init c = record {
   beyond = λ on. beyond_match c.args.far.best c.args.from c.matched.result 64 c.walk-walk.result.at c.matched.ensures (c.walk-walk.ensures.to on);
   dead = c.requires.dead;
   line = record { begin = refl; states = refl; step = refl };
+  kept = λ p s keeps. keeps;
 }
+
+pub returns-clause-kept : goal.returns-clause-kept
+returns-clause-kept c = λ p s keeps. c.in_default.ensures.kept p s (c.loop-next.invariant.kept p s keeps)

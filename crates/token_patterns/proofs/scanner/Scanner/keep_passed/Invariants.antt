@@ -1,6 +1,6 @@
-use Rattle.std.proofs.Common.{◌≡◌, false, ◌+◌, ◌≤◌, ◌-◌, length}
+use Rattle.std.proofs.Common.{◌≡◌, ℕ, false, ◌+◌, ◌≤◌, ◌-◌, length}
 use Rattle.std.specs.Prelude.{IfSome}
-use Rattle.dead_ends.specs.Pairs.{AreOfOneLine}
+use Rattle.dead_ends.specs.Pairs.{AreOfOneLine, Keeps}
 use Rattle.token_patterns.specs.Walking.{IsWalk, AreDeadEnds}
 use Rattle.token_patterns.proofs.scanner.Scanner.keep_passed.Given as goal
 
@@ -10,6 +10,7 @@ invariant-loop-next l = record {
   beyond : l.walk.ended ≡ false → IfSome l.far.best (λ found. l.from + found.0 ≤ l.walk.at);
   dead : AreDeadEnds l.self l.text l.dead_ends;
   line : AreOfOneLine l.fn.dead_ends l.dead_ends;
+  kept : (place state : ℕ) → Keeps l.fn.dead_ends place state → Keeps l.dead_ends place state;
 }
 
 abbrev pub decreases-loop-next : goal.decreases-loop-next
