@@ -1,7 +1,8 @@
 ghost use Rattle.std.specs.Prelude.{◌≡◌, ◌<◌, ◌≤◌, max, length, slice_get, Some, IfOk};
-ghost use Rattle.scanning_theory.specs.Lines.{begins_line, line_starts};
+ghost use Rattle.scanning_theory.specs.Lines.{line_starts};
 
 use lr_base::{NoMemory, TEXT_BYTES};
+use memchr::memchr_iter;
 use std::alloc::Global;
 use std::marker::Model;
 
@@ -29,10 +30,13 @@ impl Lines {
         ensures { IfOk result (λ lines. lines ≡ line_starts text.now) }
     {
         let mut starts = Vec::new(alloc);
-        for at in 0..text.len() {
-            if is_line_start(text, at) {
-                starts.push(at as u32)?;
-            }
+        let Some((_, front)) = text.split_last() else {
+            return Ok(Lines { starts });
+        };
+        starts.push(0)?;
+        // No line begins behind a line feed that ends the text.
+        for feed in memchr_iter(b'\n', front) {
+            starts.push(feed as u32 + 1)?;
         }
         Ok(Lines { starts })
     }
@@ -58,12 +62,4 @@ impl Lines {
     {
         self.starts[line as usize]
     }
-}
-
-/// Whether a line begins at this place.
-fn is_line_start(text: &[u8], at: usize) -> bool
-    requires { at < length text.now }
-    ensures { result ≡ begins_line text.now at }
-{
-    at == 0 || text[at - 1] == b'\n'
 }

@@ -1,11 +1,10 @@
-use Rattle.std.proofs.Common.{◌≡◌, ◌≤◌, length}
-use Rattle.std.specs.Prelude.{filter}
-use Rattle.std.specs.List.{range_with_len}
-use Rattle.scanning_theory.specs.Lines.{begins_line}
+use Rattle.std.proofs.Common.{◌≡◌, ◌+◌, ◌≤◌, ◌++◌, length}
+use Rattle.scanning_theory.specs.Lines.{line_starts}
+use Rattle.line_lexer.proofs.LinesLemmas.{behind_each}
 use Rattle.line_lexer.proofs.lines.Lines.of.Given as goal
 
-abbrev pub invariant-loop-at : goal.invariant-loop-at
-invariant-loop-at l = record {
-  starts : l.starts.items ≡ filter (begins_line l.text) (range_with_len 0 l.at);
-  few : length l.starts.items ≤ l.at;
+abbrev pub invariant-loop-feed : goal.invariant-loop-feed
+invariant-loop-feed l = record {
+  starts : l.starts.items ++ behind_each l.feed-iterator ≡ line_starts l.text;
+  few : length l.starts.items + length l.feed-iterator ≤ length l.text;
 }
