@@ -89,10 +89,8 @@ impl Chunk {
         let place = self.nodes.len() as u64;
         self.nodes.reserve(1)?;
         push_kids(self.number, &mut self.links, &mut self.leaves, kids)?;
-        match self.nodes.push(Node { end, rule }) {
-            Ok(()) => Ok(place),
-            Err(_) => unreachable!(),
-        }
+        self.nodes.push_reserved(Node { end, rule });
+        Ok(place)
     }
 
     /// Puts a kid in the place of a hidden one of a node.

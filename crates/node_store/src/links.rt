@@ -1,5 +1,5 @@
 //! The links of kids that come to a chunk.
-ghost use Rattle.std.specs.Prelude.{◌≡◌, ◌+◌, ◌^◌, ◌≤◌, ◌<◌, [], ◌∷◌, ◌++◌, length, vec_len, vec_capacity, IfSome, OnOk, OnErr};
+ghost use Rattle.std.specs.Prelude.{◌≡◌, ◌≢◌, ℕ, ◌+◌, ◌^◌, ◌≤◌, ◌<◌, [], ◌∷◌, ◌++◌, length, vec_len, vec_capacity, IfNone, IfSome, OnOk, OnErr};
 ghost use Rattle.node_data.specs.declared.kid.Kid.TheVariants.{Node as NodeKid};
 ghost use Rattle.node_store.specs.Links.{AreNumbered, linked};
 
@@ -8,36 +8,10 @@ use crate::packed_kid::PackedKid;
 use lr_base::NoMemory;
 use node_data::Kid;
 
-/// Puts a link behind the others, where there is room for it.
-fn push_link(links: &mut Vec<PackedLink>, link: PackedLink)
-    requires { vec_len links.old < vec_capacity links.old }
-    ensures items { links.new.items ≡ links.old.items ++ link ∷ [] }
-    ensures room { vec_capacity links.old ≤ vec_capacity links.new }
-{
-    match links.push(link) {
-        Ok(()) => {}
-        Err(_) => unreachable!(),
-    }
-}
-
-/// Puts a leaf behind the others, where there is room for it, and gives its index.
-fn push_leaf(leaves: &mut Vec<PackedKid>, leaf: PackedKid) -> u32
-    requires room { vec_len leaves.old < vec_capacity leaves.old }
-    requires few { length leaves.old.items < 2 ^ 31 }
-    ensures index { result ≡ length leaves.old.items }
-    ensures items { leaves.new.items ≡ leaves.old.items ++ leaf ∷ [] }
-    ensures room { vec_capacity leaves.old ≤ vec_capacity leaves.new }
-{
-    let index = leaves.len() as u32;
-    match leaves.push(leaf) {
-        Ok(()) => index,
-        Err(_) => unreachable!(),
-    }
-}
-
 /// The place of a kid among the nodes of the chunk of that number, where it is one of them and a link can tell its place.
 fn place_in(number: u32, kid: Kid) -> Option<u32>
-    ensures { IfSome result (λ place. (place < 2 ^ 31) × (kid ≡ NodeKid (number, place))) }
+    ensures some { IfSome result (λ place. (place < 2 ^ 31) × (kid ≡ NodeKid (number, place))) }
+    ensures none { IfNone result ((place : ℕ) → place < 2 ^ 31 → kid ≢ NodeKid (number, place)) }
 {
     match kid {
         Kid::Node(node) if node.chunk == number && node.place < MOST_LINKED as u64 => Some(
@@ -62,10 +36,11 @@ fn push_kid(number: u32, links: &mut Vec<PackedLink>, leaves: &mut Vec<PackedKid
     ensures leaf_room { vec_capacity leaves.old ≤ vec_capacity leaves.new }
 {
     match place_in(number, kid.kid()) {
-        Some(place) => push_link(links, PackedLink::of(Link::Node(place))),
+        Some(place) => links.push_reserved(PackedLink::of(Link::Node(place))),
         None => {
-            let index = push_leaf(leaves, kid);
-            push_link(links, PackedLink::of(Link::Leaf(index)));
+            let index = leaves.len() as u32;
+            leaves.push_reserved(kid);
+            links.push_reserved(PackedLink::of(Link::Leaf(index)));
         }
     }
 }
