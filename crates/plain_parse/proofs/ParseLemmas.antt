@@ -135,6 +135,16 @@ pub no_shift : {t : Tables} → IsLawful t → {tokens : List TextToken} {run : 
 no_shift {t} lawful {tokens} at act =
     no_end_shift lawful.1 at.is_stack (ap (λ (x : TextToken). x.id) (end_token t tokens (end_of t))) (ap (λ q. act_in t q (token_of t tokens (length tokens))) (sym (top_is at)) ∙ act)
 
+-- what is shifted is a token, and only the end is accepted
+pub shift_inside : {t : Tables} → IsLawful t → {tokens : List TextToken} {index : ℕ} {run : Run} {p : ℕ} → IsRun t tokens index run → index ≤ length tokens → act_in t (top_of run) (token_of t tokens index) ≡ Shift p → index < length tokens
+shift_inside {t} lawful {tokens} {index} {run} {p} at within act = let ahead = at_end index at act in omega (arith, ahead)
+  where
+    at_end : (i : ℕ) → IsRun t tokens i run → act_in t (top_of run) (token_of t tokens i) ≡ Shift p → i ≡ length tokens → ⊥
+    at_end i here shifts end = no_shift lawful (subst (λ k. IsRun t tokens k run) end here) (subst (λ k. act_in t (top_of run) (token_of t tokens k) ≡ Shift p) end shifts)
+
+pub accept_behind : {t : Tables} → IsLawful t → {tokens : List TextToken} {index : ℕ} {run : Run} → IsRun t tokens index run → AreTextTokens t tokens → index ≤ length tokens → act_in t (top_of run) (token_of t tokens index) ≡ Accept → index ≡ length tokens
+accept_behind {t} lawful {tokens} {index} at text within act = let behind : index < length tokens → ⊥ = λ inside. no_accept lawful at text inside act in omega (arith, behind)
+
 -- ---- the answer and sentences
 
 pub tree_sentence : {g : Grammar} {t : Tables} → IsLawfulFor g t → (tokens : List TextToken) (parsed : Parsed) → IsParsed g t tokens parsed → HasTree parsed ↔ IsSentence g (ids_of tokens)
@@ -159,3 +169,14 @@ tree_parsed {g} {t} lawful {tokens} at settled e is =
     let accept = sym settled.is_act ∙ e in
     let root = root_left lawful at accept in
     subst (λ p. IsParsed g t tokens p) (sym (is root.0 root.1)) (tree_there lawful at accept root.0 root.1)
+
+pub root_behind : {t : Tables} → IsLawful t → {tokens : List TextToken} {index : ℕ} {run : Run} → IsRun t tokens index run → AreTextTokens t tokens → index ≤ length tokens → {act : Act} → IsSettled t tokens index run act → act ≡ Accept → HasRoot run
+root_behind {t} lawful {tokens} {index} {run} at text within settled e =
+    let accept = sym settled.is_act ∙ e in
+    let end = accept_behind lawful at text within accept in
+    root_left lawful.1 (subst (λ k. IsRun t tokens k run) end at) (subst (λ k. act_in t (top_of run) (token_of t tokens k) ≡ Accept) end accept)
+
+pub tree_behind : {g : Grammar} {t : Tables} → IsLawful t → IsLawfulFor g t → {tokens : List TextToken} {index : ℕ} {run : Run} → IsRun t tokens index run → AreTextTokens t tokens → index ≤ length tokens → {act : Act} → IsSettled t tokens index run act → act ≡ Accept → {parsed : Parsed} → IsFinish run parsed → IsParsed g t tokens parsed
+tree_behind {t = t} lawful for_g {tokens} {index} {run} at text within {act} settled e is =
+    let end = accept_behind lawful at text within (sym settled.is_act ∙ e) in
+    tree_parsed for_g (subst (λ k. IsRun t tokens k run) end at) (subst (λ k. IsSettled t tokens k run act) end settled) e is

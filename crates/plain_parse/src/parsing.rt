@@ -31,16 +31,16 @@ pub fn parse_one(alloc: Global, tables: &Tables, tokens: &[Token]) -> Result<Par
 {
     tables.holds();
     let mut run = Run::new(alloc)?;
-    for index in 0..tokens.len() {
+    let mut index = 0;
+    loop {
         match run.settle(tables, tokens, index)? {
-            Act::Shift(state) => run.shift(tokens[index], state)?,
+            Act::Shift(state) => {
+                run.shift(tokens[index], state)?;
+                index += 1;
+            }
+            Act::Accept => return Ok(run.finish()),
             Act::Error => return Ok(run.wrong(tokens, index)),
-            Act::Accept | Act::Reduce(_) => unreachable!(),
+            Act::Reduce(_) => unreachable!(),
         }
-    }
-    match run.settle(tables, tokens, tokens.len())? {
-        Act::Accept => Ok(run.finish()),
-        Act::Error => Ok(run.wrong(tokens, tokens.len())),
-        Act::Shift(_) | Act::Reduce(_) => unreachable!(),
     }
 }
