@@ -1,3 +1,4 @@
 pub mod ClosingLemmas
 pub mod AlternativeLemmas
 pub mod SamplingLemmas
+pub mod WordLemmas

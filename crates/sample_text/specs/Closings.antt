@@ -45,6 +45,10 @@ pub data IsTried (height r n : ℕ) (right : List Sym) (closings new : List (Opt
   is_open : ¬ (All (IsSymbolClosed closings height) right) → new ≡ closings → IsTried height r n right closings new
   now_closed : closing_at closings n ≡ None → All (IsSymbolClosed closings height) right → new ≡ slice_set closings n (Some (record { rule = r; height = height })) → IsTried height r n right closings new
 
+-- a name is closed by trees of this height
+abbrev pub HasHeight : List (Option Closing) → ℕ → Type 0
+HasHeight closings height = (n : ℕ) × (c : Closing) × (closing_at closings n ≡ Some c) × (c.height ≡ height)
+
 -- each name has its closing rule
 abbrev pub HaveClosings : Grammar → List (Option Closing) → Type 0
 HaveClosings g closings = (n : ℕ) → n < g.names → (c : Closing) × (closing_at closings n ≡ Some c) × IsClosedBy g n c

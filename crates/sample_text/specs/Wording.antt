@@ -21,19 +21,23 @@ IsWithoutWord table means a (NoSample b) = (b ≡ a) × ((scanning : Scanning) �
 IsWithoutWord table means a TooLong = ⊥
 IsWithoutWord table means a NoMemory = Unit {0}
 
--- the text passes its limit with one more word; no token is named
+-- the text passes its limit with one more line; no token is named
 abbrev pub IsLonger : List ℕ → List ℕ → SampleFault → Type 0
-IsLonger text word (NoSample b) = ⊥
-IsLonger text word TooLong = TEXT_BYTES < length (text ++ (word ++ line_feed ∷ []))
-IsLonger text word NoMemory = Unit {0}
+IsLonger text line (NoSample b) = ⊥
+IsLonger text line TooLong = TEXT_BYTES < length (text ++ line)
+IsLonger text line NoMemory = Unit {0}
 
--- the words that were found are those of their tokens
+-- the line is the word of the token and a line feed
+abbrev pub IsLineFor : Scanning → ℕ → List ℕ → Type 0
+IsLineFor scanning a line = (word : List ℕ) × IsWordFor scanning a word × (line ≡ word ++ line_feed ∷ [])
+
+-- the lines that were found are those of their tokens
 abbrev pub AreKnown : Table → List Meaning → List (Option (Vec ℕ)) → Type 0
-AreKnown table means found = (a : ℕ) (word : Vec ℕ) → slice_index_or found a None ≡ Some word → (scanning : Scanning) → IsScannedBy table means scanning → IsWordFor scanning a word.items
+AreKnown table means found = (a : ℕ) (line : Vec ℕ) → slice_index_or found a None ≡ Some line → (scanning : Scanning) → IsScannedBy table means scanning → IsLineFor scanning a line.items
 
--- the word of the token was found
+-- the line of the token was found
 abbrev pub IsThere : List (Option (Vec ℕ)) → ℕ → Type 0
-IsThere found a = (word : Vec ℕ) × (slice_index_or found a None ≡ Some word)
+IsThere found a = (line : Vec ℕ) × (slice_index_or found a None ≡ Some line)
 
 -- the word of the token and a line feed stand behind the text
 abbrev pub IsWritten : Table → List Meaning → ℕ → List ℕ → List ℕ → Type 0
@@ -45,6 +49,6 @@ IsUnwritten table means a text (NoSample b) = (b ≡ a) × ((scanning : Scanning
 IsUnwritten table means a text TooLong = (scanning : Scanning) → IsScannedBy table means scanning → (word : List ℕ) × IsWordFor scanning a word × (TEXT_BYTES < length (text ++ (word ++ line_feed ∷ [])))
 IsUnwritten table means a text NoMemory = Unit {0}
 
--- no word was found
+-- no line was found
 abbrev pub AreUnknown : List (Option (Vec ℕ)) → Type 0
 AreUnknown found = (a : ℕ) → slice_index_or found a None ≡ None

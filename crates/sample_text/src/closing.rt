@@ -3,7 +3,7 @@ ghost use Rattle.std.specs.Prelude.{◌≡◌, ℕ, ◌+◌, ◌<◌, true, fals
 ghost use Rattle.grammar_data.specs.declared.rule.Sym.{Sym as Symbol};
 ghost use Rattle.grammar_theory.specs.UsefulNames.{AllProductive};
 ghost use Rattle.lr_base.specs.IsGrammar.{IsGrammar};
-ghost use Rattle.sample_text.specs.Closings.{AllAreBelow, HaveClosings, IsRound, IsSymbolClosed, IsTried};
+ghost use Rattle.sample_text.specs.Closings.{AllAreBelow, HasHeight, HaveClosings, IsRound, IsSymbolClosed, IsTried};
 
 use grammar_data::{RuleId, Sym};
 use lr_base::{Grammar, NoMemory};
@@ -49,6 +49,7 @@ fn close_by(
     requires size { length closings.old.items ≡ grammar.now.names }
     ensures tried { (n : ℕ) (right : List Symbol) → slice_get grammar.now.rules rule ≡ Some (n, right) → IsTried height rule n right closings.old.items closings.new.items }
     ensures none { result ≡ false → closings.new.items ≡ closings.old.items }
+    ensures some { result ≡ true → HasHeight closings.new.items height }
 {
     let left = grammar.left(rule).0 as usize;
     if closings[left].is_some() {
@@ -69,6 +70,7 @@ fn close_round(grammar: &Grammar, closings: &mut Vec<Option<Closing>>, height: u
     requires below { AllAreBelow closings.old.items height }
     ensures round { IsRound grammar.now height (length grammar.now.rules) closings.new.items }
     ensures none { result ≡ false → AllAreBelow closings.new.items height }
+    ensures some { result ≡ true → HasHeight closings.new.items height }
 {
     let mut more = false;
     for rule in 0..grammar.rule_count() {

@@ -1,5 +1,5 @@
-//! The words of tokens, each found once.
-ghost use Rattle.std.specs.Prelude.{◌≡◌, ◌≢◌, ℕ, ◌<◌, ◌≤◌, ◌∷◌, ◌++◌, [], length, slice_get, Some, MatchOption, IfOk, IfErr};
+//! The words of tokens, each found once, and kept with a line feed behind it.
+ghost use Rattle.std.specs.Prelude.{◌≡◌, ◌≢◌, ℕ, ◌<◌, ◌≤◌, ◌++◌, length, slice_get, Some, MatchOption, IfOk, IfErr};
 ghost use Rattle.lr_base.specs.declared.limits.TheConstants.{TEXT_BYTES};
 ghost use Rattle.pattern_data.specs.declared.pattern.Meaning.TheVariants.{Token as token_meaning};
 ghost use Rattle.sample_theory.specs.Samples.{IsRankOf, IsWordFor};
@@ -48,22 +48,21 @@ fn find_word(
     }
 }
 
-/// Appends a word and a line feed, unless the text passes its limit with them.
-fn append(text: &mut Vec<u8>, word: &[u8]) -> Result<(), SampleFault>
+/// Appends a line, unless the text passes its limit with it.
+fn append(text: &mut Vec<u8>, line: &[u8]) -> Result<(), SampleFault>
     requires { length text.old.items ≤ TEXT_BYTES }
-    ensures text { IfOk result (λ _. text.new.items ≡ text.old.items ++ (word.now ++ 10 ∷ [])) }
+    ensures text { IfOk result (λ _. text.new.items ≡ text.old.items ++ line.now) }
     ensures fits { IfOk result (λ _. length text.new.items ≤ TEXT_BYTES) }
-    ensures fault { IfErr result (IsLonger text.old.items word.now) }
+    ensures fault { IfErr result (IsLonger text.old.items line.now) }
 {
-    if word.len() >= TEXT_BYTES - text.len() {
+    if line.len() > TEXT_BYTES - text.len() {
         return Err(SampleFault::TooLong);
     }
-    text.extend_from_slice(word)?;
-    text.push(b'\n')?;
+    text.extend_from_slice(line)?;
     Ok(())
 }
 
-/// Finds the shortest word of a token, unless it is known.
+/// Finds the shortest word of a token and puts a line feed behind it, unless it is known.
 fn know_word(
     alloc: Global,
     scanner: &Scanner,
@@ -83,8 +82,9 @@ fn know_word(
     if found[place].is_some() {
         return Ok(());
     }
-    let word = find_word(alloc, scanner, means, token)?;
-    found[place] = Some(word);
+    let mut line = find_word(alloc, scanner, means, token)?;
+    line.push(b'\n')?;
+    found[place] = Some(line);
     Ok(())
 }
 
@@ -109,7 +109,7 @@ pub fn write_word(
 {
     know_word(alloc, scanner, means, found, token)?;
     match &found[token.0 as usize] {
-        Some(word) => append(text, word),
+        Some(line) => append(text, line),
         None => unreachable!(),
     }
 }

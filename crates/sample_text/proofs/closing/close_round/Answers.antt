@@ -5,7 +5,7 @@ use Rattle.grammar_theory.specs.Rules.{IsRule}
 use Rattle.grammar_laws.proofs.RangeLemmas.{in_range}
 use Rattle.position_theory.proofs.StateLemmas.{get_at}
 use Rattle.sample_text.specs.declared.closing.Closing.{Closing}
-use Rattle.sample_text.specs.Closings.{AllAreBelow, IsRound}
+use Rattle.sample_text.specs.Closings.{AllAreBelow, HasHeight, IsRound}
 use Rattle.sample_text.proofs.ClosingLemmas.{round_tried}
 use Rattle.sample_text.proofs.closing.close_round.Goals as goal
 use Rattle.sample_text.proofs.closing.close_round.Goals.{then-close_by, else-close_by}
@@ -26,5 +26,9 @@ loop-rule-preserved c =
       below = elim c.if-close_by.branch [
         | then-close_by w ↦ λ none. absurd (false≢true (sym none ∙ w.more-is))
         | else-close_by w ↦ λ none. subst (λ (l : List (Option Closing)). AllAreBelow l c.args.height) (sym (c.close_by.ensures.none w.if-close_by.false)) (c.loop-rule.invariant.below (sym w.more-is ∙ none))
+      ];
+      some = elim c.if-close_by.branch [
+        | then-close_by w ↦ λ _. c.close_by.ensures.some w.if-close_by.true
+        | else-close_by w ↦ λ more. subst (λ (l : List (Option Closing)). HasHeight l c.args.height) (sym (c.close_by.ensures.none w.if-close_by.false)) (c.loop-rule.invariant.some (sym w.more-is ∙ more))
       ];
     }

@@ -15,6 +15,6 @@ returns-then-is_some-clause-this c =
 pub returns-clause-this : goal.returns-clause-this
 returns-clause-this c =
     let found : List (Option (Vec ℕ)) = c.args.found.now.items in
-    let word : Vec ℕ = c.in_ok-word.word in
+    let word : Vec ℕ = c.push.new.self in
     let below : c.token.inside.0 < length found = subst (λ k. k < length found) (sym c.token.view_is) c.requires.token in
     (word, ap (λ k. slice_index_or (slice_set found c.token.inside.0 (Some word)) k None) (sym c.token.view_is) ∙ get_or-set_same found c.token.inside.0 (Some word) None below)
