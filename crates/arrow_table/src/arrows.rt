@@ -75,11 +75,11 @@ impl<'a> Arrows<'a> {
     }
 
     /// A copy of the map with a number, to be kept without the table.
-    pub fn copy(&self, alloc: Global, id: ArrowId) -> Result<Arrow, NoMemory>
+    pub fn copy(&self, id: ArrowId) -> Result<Arrow, NoMemory>
         requires { id < length self.now.1 }
         ensures { IfOk result (λ arrow. arrow ≡ map_at self.now.1 id) }
     {
-        self.map(id).copy(alloc)
+        self.map(id).copy()
     }
 
     /// The number of a map, where a hint leads to the same map.

@@ -22,7 +22,8 @@ pub enum Question {
 const SPREAD: u64 = 0x9e37_79b9_7f4a_7c15;
 
 impl Question {
-    /// A number by which an answer is looked for. It is a hint alone: whoever finds an answer by it compares the questions.
+    /// A number of 13 bits by which an answer is looked for: the highest ones of a product, which all bits of the question reach,
+    /// those of its kind too. It is a hint alone: whoever finds an answer by it compares the questions.
     pub fn print(&self) -> u64 {
         let (kind, one, other) = match *self {
             Question::Open(token) => (0, token.0, 0),
@@ -32,7 +33,7 @@ impl Question {
             Question::Shift(id, token) => (4, id.number(), token.0),
         };
         let mixed = (u64::from(one) << 32 | u64::from(other)) ^ kind << 61;
-        mixed.wrapping_mul(SPREAD) >> 32
+        mixed.wrapping_mul(SPREAD) >> 51
     }
 }
 

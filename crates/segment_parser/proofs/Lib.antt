@@ -8,3 +8,4 @@ pub mod ReduceLemmas
 pub mod CloseLemmas
 pub mod SettleLemmas
 pub mod ReadLemmas
+pub mod OpenLemmas

@@ -22,11 +22,11 @@ use Rattle.node_store.specs.Chunks.{StoresNode}
 use Rattle.arrow_table.specs.Looks.{Grows, HasMap, map_at}
 use Rattle.segment_parser.specs.declared.leaf.Leaf.{Leaf}
 use Rattle.segment_parser.specs.Working.{last_id, AreThere, IsFreshAt, was_fresh, made_fresh}
-use Rattle.segment_parser.specs.Standing.{last_in, piece_in, IsAt, SameButEntries}
+use Rattle.segment_parser.specs.Standing.{last_in, piece_in, HasMaps, IsAt, SameButEntries}
 use Rattle.segment_parser.proofs.HeldLemmas.{stays_at, has_grows, grows_then}
 use Rattle.segment_parser.proofs.AtLemmas.{at_grows, there_grows, last_at, last_grows}
-use Rattle.segment_parser.proofs.TakeLemmas.{takes_some_at, there_front}
-use Rattle.segment_parser.proofs.WholeLemmas.{takes_all_at, floor_at}
+use Rattle.segment_parser.proofs.TakeLemmas.{takes_some_at, there_front, HasTaken}
+use Rattle.segment_parser.proofs.WholeLemmas.{takes_all_at, floor_at, HasTakenAll, HasRaised}
 
 pub same_then : {s mid after : Leaf} → SameButEntries s mid → SameButEntries mid after → SameButEntries s after
 same_then one two = record {
@@ -79,30 +79,25 @@ fresh_as {final} {starts} {starts1} {stale} {stale1} {stale2} {stale3} {depth} {
     let four : IsFreshAt final final starts1 stale1 stale3 depth1 ids low = subst (λ (x : ℕ). IsFreshAt final final starts1 stale1 stale3 x ids low) d three in
     subst (λ x. IsFreshAt final final starts1 stale1 stale3 depth1 x low) e four
 
--- a reduction that takes fewer entries than there are
-pub reduce_some_at : (t : Tables) → IsLawful t → (store new : Store) (maps mid final : List StateMap) (s s1 s2 after : Leaf) (r n count : ℕ) (right : List Sym) (m : Ref) (to : ℕ) → IsRule t.rules r n right → count ≡ length right → count < length s.ids.items
+-- a reduction that takes fewer entries than there are, as it stands in the last table
+pub some_taken : (t : Tables) (store new : Store) (maps mid final : List StateMap) (s s1 s2 after : Leaf) (r n count : ℕ) (m : Ref) (to : ℕ) → count < length s.ids.items → HasMaps maps s
     → SameButEntries s s1 → s1.stale ≡ s.stale → s1.count ≡ s.count → s1.block.kids ≡ take (length s.ids.items - count) s.block.kids → s1.ids.items ≡ take (length s.ids.items - count) s.ids.items → StoresNode store new r (drop (length s.ids.items - count) s.block.kids) m
     → Grows maps mid → IsFreshAt maps mid s1.starts s1.stale s2.stale (length s1.ids.items - 1) s1.ids.items s2.ids.items → SameButEntries s1 s2 → s2.block.kids ≡ s1.block.kids → s2.count ≡ s1.count
     → Grows mid final → SameButEntries s2 after → after.stale ≡ s2.stale → after.count ≡ s2.count → after.block.kids ≡ s2.block.kids ++ NodeKid m ∷ [] → after.ids.items ≡ s2.ids.items ++ to ∷ [] → HasMap final to (IsThenSymbol t (Name n) (map_at mid (last_id s2.ids.items)))
-    → (tokens w rest : List TextToken) (token : TextToken) → IsAt t store maps s tokens w rest (token ∷ []) → NoneErrs t token.id (map_at maps (last_id s.ids.items)) → AllReduce t token.id r (map_at maps (last_id s.ids.items))
-    → IsAt t new final after tokens w rest (token ∷ []) × HasStart t (piece_in final after) w (last_in final after)
-reduce_some_at t lawful store new maps mid final s s1 s2 after r n count right m to rule sized less same1 stale1 count1 kids1 ids1 node grows1 fresh same2 kids2 count2 grows2 same3 stale3 count3 kids3 ids3 goes tokens w rest token at none all =
-    let grows = grows_then maps mid final grows1 grows2 in
-    let here = at_grows maps final grows at in
+    → HasTaken t store new final s after r n count m
+some_taken t store new maps mid final s s1 s2 after r n count m to less has same1 stale1 count1 kids1 ids1 node grows1 fresh same2 kids2 count2 grows2 same3 stale3 count3 kids3 ids3 goes =
     let k = length s.ids.items - count in
     let taken_count = ap length ids1 ∙ length-take k s.ids.items in
     let depth : length s1.ids.items - 1 ≡ k - 1 = omega (arith, taken_count, less) in
-    let some : 0 < length s.ids.items = omega (arith, less) in
-    let map = sym (stays_at maps final grows (last_id s.ids.items) (last_inside maps s.ids.items at.has.there some)) in
-    let there1 : AreThere maps s1.ids.items = subst (λ l. AreThere maps l) (sym ids1) (taken_there maps s.ids.items k at.has.there) in
-    let inside1 : s1.starts < length maps = subst (λ (x : ℕ). x < length maps) (sym same1.starts) at.has.starts in
+    let there1 : AreThere maps s1.ids.items = subst (λ l. AreThere maps l) (sym ids1) (taken_there maps s.ids.items k has.there) in
+    let inside1 : s1.starts < length maps = subst (λ (x : ℕ). x < length maps) (sym same1.starts) has.starts in
     let deep : length s1.ids.items - 1 < length s1.ids.items = omega (arith, taken_count, less) in
     let there2 : AreThere mid s2.ids.items = fresh_there maps mid s1.starts s1.stale s2.stale (length s1.ids.items - 1) s1.ids.items s2.ids.items grows1 there1 fresh in
     let length2 = fresh_length maps mid s1.starts s1.stale s2.stale (length s1.ids.items - 1) s1.ids.items s2.ids.items fresh in
     let some2 : 0 < length s2.ids.items = omega (arith, length2, taken_count, less) in
     let fresh1 : IsFreshAt final final s1.starts s1.stale s2.stale (length s1.ids.items - 1) s1.ids.items s2.ids.items = fresh_grows maps mid final s1.starts s1.stale s2.stale (length s1.ids.items - 1) s1.ids.items s2.ids.items grows1 grows2 there1 inside1 deep fresh in
     let below = sym (stays_at mid final grows2 (last_id s2.ids.items) (last_inside mid s2.ids.items there2 some2)) in
-    takes_some_at t lawful store new final s after tokens w rest token r n count right m here (subst (λ x. NoneErrs t token.id x) map none) (subst (λ x. AllReduce t token.id r x) map all) rule sized less (record {
+    record {
       same = same_then same1 (same_then same2 same3);
       tokens = count3 ∙ count2 ∙ count1;
       node = node;
@@ -112,20 +107,34 @@ reduce_some_at t lawful store new maps mid final s s1 s2 after r n count right m
       to = to;
       ids = ids3;
       goes = subst (λ x. HasMap final to (IsThenSymbol t (Name n) x)) below goes;
-    })
+    }
 
--- a reduction that takes all entries
-pub reduce_all_at : (t : Tables) → IsLawful t → (store new : Store) (maps final : List StateMap) (s after : Leaf) (r n k : ℕ) (right : List Sym) (m : Ref) (to : ℕ) → IsRule t.rules r n right → length s.ids.items ≡ length right → k ≡ 0
-    → SameButEntries s after → after.stale ≡ 0 → after.count ≡ s.count → after.block.kids ≡ take k s.block.kids ++ NodeKid m ∷ [] → after.ids.items ≡ take k s.ids.items ++ to ∷ [] → StoresNode store new r (drop k s.block.kids) m
-    → Grows maps final → HasMap final to (IsThenSymbol t (Name n) (map_at maps s.own))
+-- in a table with more maps the last entry's map is the same
+pub none_grows : (t : Tables) (maps final : List StateMap) (s : Leaf) (a : ℕ) → Grows maps final → HasMaps maps s → 0 < length s.ids.items → NoneErrs t a (map_at maps (last_id s.ids.items)) → NoneErrs t a (map_at final (last_id s.ids.items))
+none_grows t maps final s a grows has some none = subst (λ x. NoneErrs t a x) (sym (stays_at maps final grows (last_id s.ids.items) (last_inside maps s.ids.items has.there some))) none
+
+pub all_grows : (t : Tables) (maps final : List StateMap) (s : Leaf) (a r : ℕ) → Grows maps final → HasMaps maps s → 0 < length s.ids.items → AllReduce t a r (map_at maps (last_id s.ids.items)) → AllReduce t a r (map_at final (last_id s.ids.items))
+all_grows t maps final s a r grows has some all = subst (λ x. AllReduce t a r x) (sym (stays_at maps final grows (last_id s.ids.items) (last_inside maps s.ids.items has.there some))) all
+
+pub at_entry : {t : Tables} {store : Store} {maps : List StateMap} {s : Leaf} {tokens w rest next : List TextToken} → IsAt t store maps s tokens w rest next → 0 < length s.ids.items
+at_entry at =
+    let last = last_at at in
+    let count = ap length last.ids_are ∙ length-append last.low (last.id ∷ []) in
+    omega (arith, count)
+
+pub reduce_some_at : (t : Tables) → IsLawful t → (store new : Store) (maps final : List StateMap) (s after : Leaf) (r n count : ℕ) (right : List Sym) (m : Ref) → IsRule t.rules r n right → count ≡ length right → count < length s.ids.items → Grows maps final → HasTaken t store new final s after r n count m
     → (tokens w rest : List TextToken) (token : TextToken) → IsAt t store maps s tokens w rest (token ∷ []) → NoneErrs t token.id (map_at maps (last_id s.ids.items)) → AllReduce t token.id r (map_at maps (last_id s.ids.items))
     → IsAt t new final after tokens w rest (token ∷ []) × HasStart t (piece_in final after) w (last_in final after)
-reduce_all_at t lawful store new maps final s after r n k right m to rule sized none_left same stale count kids ids node grows goes tokens w rest token at none all =
-    let here = at_grows maps final grows at in
-    let some : 0 < length s.ids.items = has_entry at in
-    let map = sym (stays_at maps final grows (last_id s.ids.items) (last_inside maps s.ids.items at.has.there some)) in
-    let own = sym (stays_at maps final grows s.own at.has.own.within) in
-    takes_all_at t lawful store new final s after tokens w rest token r n right m here (subst (λ x. NoneErrs t token.id x) map none) (subst (λ x. AllReduce t token.id r x) map all) rule sized (record {
+reduce_some_at t lawful store new maps final s after r n count right m rule sized less grows taken tokens w rest token at none all =
+    takes_some_at t lawful store new final s after tokens w rest token r n count right m (at_grows maps final grows at) (none_grows t maps final s token.id grows at.has (at_entry at) none) (all_grows t maps final s token.id r grows at.has (at_entry at) all) rule sized less taken
+
+-- a reduction that takes all entries
+pub all_taken : (t : Tables) (store new : Store) (maps final : List StateMap) (s after : Leaf) (r n k : ℕ) (m : Ref) (to : ℕ) → k ≡ 0 → HasMaps maps s
+    → SameButEntries s after → after.stale ≡ 0 → after.count ≡ s.count → after.block.kids ≡ take k s.block.kids ++ NodeKid m ∷ [] → after.ids.items ≡ take k s.ids.items ++ to ∷ [] → StoresNode store new r (drop k s.block.kids) m
+    → Grows maps final → HasMap final to (IsThenSymbol t (Name n) (map_at maps s.own)) → HasTakenAll t store new final s after r n m
+all_taken t store new maps final s after r n k m to none_left has same stale count kids ids node grows goes =
+    let own = sym (stays_at maps final grows s.own has.own.within) in
+    record {
       same = same;
       tokens = count;
       node = subst (λ l. StoresNode store new r l m) (ap (λ x. drop x s.block.kids) none_left) node;
@@ -134,13 +143,13 @@ reduce_all_at t lawful store new maps final s after r n k right m to rule sized 
       ids = ids ∙ ap (λ x. take x s.ids.items ++ to ∷ []) none_left;
       stale = stale;
       goes = subst (λ x. HasMap final to (IsThenSymbol t (Name n) x)) own goes;
-    })
-  where
-    has_entry : {next : List TextToken} → IsAt t store maps s tokens w rest next → 0 < length s.ids.items
-    has_entry is =
-        let last = last_at is in
-        let count = ap length last.ids_are ∙ length-append last.low (last.id ∷ []) in
-        omega (arith, count)
+    }
+
+pub reduce_all_at : (t : Tables) → IsLawful t → (store new : Store) (maps final : List StateMap) (s after : Leaf) (r n : ℕ) (right : List Sym) (m : Ref) → IsRule t.rules r n right → length s.ids.items ≡ length right → Grows maps final → HasTakenAll t store new final s after r n m
+    → (tokens w rest : List TextToken) (token : TextToken) → IsAt t store maps s tokens w rest (token ∷ []) → NoneErrs t token.id (map_at maps (last_id s.ids.items)) → AllReduce t token.id r (map_at maps (last_id s.ids.items))
+    → IsAt t new final after tokens w rest (token ∷ []) × HasStart t (piece_in final after) w (last_in final after)
+reduce_all_at t lawful store new maps final s after r n right m rule sized grows taken tokens w rest token at none all =
+    takes_all_at t lawful store new final s after tokens w rest token r n right m (at_grows maps final grows at) (none_grows t maps final s token.id grows at.has (at_entry at) none) (all_grows t maps final s token.id r grows at.has (at_entry at) all) rule sized taken
 
 pub same_left : {n m : ℕ} (right : List Sym) → option_map {T = Rule} {U = ℕ} (λ rule. rule.0) (Some (n, right)) ≡ Some m → n ≡ m
 same_left right e = cc
@@ -150,18 +159,14 @@ pub left_is : (t here : Tables) (r n m : ℕ) (right : List Sym) → IsRule t.ru
 left_is t here r n m right rule same left = same_left right (sym (ap (λ o. option_map {T = Rule} {U = ℕ} (λ x. x.0) o) rule.found) ∙ ap (λ (x : Tables). option_map {T = Rule} {U = ℕ} (λ y. y.0) (slice_get x.rules r)) (sym same) ∙ left)
 
 -- a reduction that takes all entries and more
-pub reduce_more_at : (t : Tables) → IsLawful t → LeadFromStates t → (store new : Store) (maps mid final : List StateMap) (s s1 after : Leaf) (r n hidden : ℕ) (right : List Sym) (m : Ref) (to : ℕ) → IsRule t.rules r n right → 0 < hidden → hidden + length s.ids.items ≡ length right
+pub more_raised : (t : Tables) (store new : Store) (maps mid final : List StateMap) (s s1 after : Leaf) (r n hidden : ℕ) (right : List Sym) (m : Ref) (to : ℕ) → HasMaps maps s
     → s1.block.floors ≡ s.block.floors ++ last_in maps s ∷ [] → s1.block.closed ≡ s.block.closed → s1.faults.items ≡ [] → s1.opened ≡ Some (record { rule = r; hidden = hidden; node = m }) → s1.first ≡ s.first → s1.count ≡ s.count → s1.block.kids ≡ [] → s1.ids.items ≡ [] → s1.stale ≡ 0
     → StoresNode store new r (replicate hidden Hidden ++ s.block.kids) m → Grows maps mid → HasMap mid s1.starts (IsBack t (take hidden right) (map_at maps s.starts)) → HasMap mid s1.own (IsIdentityOf (map_at mid s1.starts))
     → SameButEntries s1 after → after.stale ≡ s1.stale → after.count ≡ s1.count → after.block.kids ≡ s1.block.kids ++ NodeKid m ∷ [] → after.ids.items ≡ s1.ids.items ++ to ∷ [] → Grows mid final → HasMap final to (IsThenSymbol t (Name n) (map_at mid s1.own))
-    → (tokens w rest : List TextToken) (token : TextToken) → IsAt t store maps s tokens w rest (token ∷ []) → NoneErrs t token.id (map_at maps (last_id s.ids.items)) → AllReduce t token.id r (map_at maps (last_id s.ids.items))
-    → IsAt t new final after tokens w rest (token ∷ []) × HasStart t (piece_in final after) w (last_in final after)
-reduce_more_at t lawful lead store new maps mid final s s1 after r n hidden right m to rule some sized floors closed faults opened first count kids ids stale node grows1 back own same stale2 count2 kids2 ids2 grows2 goes tokens w rest token at none all =
+    → HasRaised t store new final s after r n hidden right m
+more_raised t store new maps mid final s s1 after r n hidden right m to has floors closed faults opened first count kids ids stale node grows1 back own same stale2 count2 kids2 ids2 grows2 goes =
     let grows = grows_then maps mid final grows1 grows2 in
-    let here = at_grows maps final grows at in
-    let entry : 0 < length s.ids.items = let last = last_at at in let e = ap length last.ids_are ∙ length-append last.low (last.id ∷ []) in omega (arith, e) in
-    let map = sym (stays_at maps final grows (last_id s.ids.items) (last_inside maps s.ids.items at.has.there entry)) in
-    let starts = sym (stays_at maps final grows s.starts at.has.starts) in
+    let starts = sym (stays_at maps final grows s.starts has.starts) in
     let back1 : HasMap final s1.starts (IsBack t (take hidden right) (map_at maps s.starts)) = has_grows mid final (IsBack t (take hidden right) (map_at maps s.starts)) grows2 s1.starts back in
     let back2 : HasMap final s1.starts (IsBack t (take hidden right) (map_at final s.starts)) = subst (λ x. HasMap final s1.starts (IsBack t (take hidden right) x)) starts back1 in
     let own1 : HasMap final s1.own (IsIdentityOf (map_at mid s1.starts)) = has_grows mid final (IsIdentityOf (map_at mid s1.starts)) grows2 s1.own own in
@@ -169,8 +174,8 @@ reduce_more_at t lawful lead store new maps mid final s s1 after r n hidden righ
     let own3 : HasMap final after.own (IsIdentityOf (map_at final after.starts)) = subst (λ (k : ℕ). HasMap final k (IsIdentityOf (map_at final after.starts))) (sym same.own) (subst (λ (k : ℕ). HasMap final s1.own (IsIdentityOf (map_at final k))) (sym same.starts) own2) in
     let goes1 : HasMap final to (IsThenSymbol t (Name n) (map_at final s1.own)) = subst (λ x. HasMap final to (IsThenSymbol t (Name n) x)) (sym (stays_at mid final grows2 s1.own own.within)) goes in
     let goes2 : HasMap final to (IsThenSymbol t (Name n) (map_at final after.own)) = subst (λ (k : ℕ). HasMap final to (IsThenSymbol t (Name n) (map_at final k))) (sym same.own) goes1 in
-    floor_at t lawful lead store new final s after tokens w rest token r n hidden right m here (subst (λ x. NoneErrs t token.id x) map none) (subst (λ x. AllReduce t token.id r x) map all) rule some sized (record {
-      floors = same.floors ∙ floors ∙ ap (λ f. s.block.floors ++ f ∷ []) (sym (last_grows maps final s grows at.has.starts));
+    record {
+      floors = same.floors ∙ floors ∙ ap (λ f. s.block.floors ++ f ∷ []) (sym (last_grows maps final s grows has.starts));
       closed = same.closed ∙ closed;
       faults = same.faults ∙ faults;
       opened = same.opened ∙ opened;
@@ -184,4 +189,10 @@ reduce_more_at t lawful lead store new maps mid final s s1 after r n hidden righ
       ids = ids2 ∙ ap (λ l. l ++ to ∷ []) ids;
       stale = stale2 ∙ stale;
       goes = goes2;
-    })
+    }
+
+pub reduce_more_at : (t : Tables) → IsLawful t → LeadFromStates t → (store new : Store) (maps final : List StateMap) (s after : Leaf) (r n hidden : ℕ) (right : List Sym) (m : Ref) → IsRule t.rules r n right → 0 < hidden → hidden + length s.ids.items ≡ length right → Grows maps final → HasRaised t store new final s after r n hidden right m
+    → (tokens w rest : List TextToken) (token : TextToken) → IsAt t store maps s tokens w rest (token ∷ []) → NoneErrs t token.id (map_at maps (last_id s.ids.items)) → AllReduce t token.id r (map_at maps (last_id s.ids.items))
+    → IsAt t new final after tokens w rest (token ∷ []) × HasStart t (piece_in final after) w (last_in final after)
+reduce_more_at t lawful lead store new maps final s after r n hidden right m rule some sized grows raised tokens w rest token at none all =
+    floor_at t lawful lead store new final s after tokens w rest token r n hidden right m (at_grows maps final grows at) (none_grows t maps final s token.id grows at.has (at_entry at) none) (all_grows t maps final s token.id r grows at.has (at_entry at) all) rule some sized raised

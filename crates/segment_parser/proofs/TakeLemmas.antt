@@ -25,7 +25,7 @@ use Rattle.node_store.specs.Chunks.{StoresNode}
 use Rattle.arrow_table.specs.Looks.{HasMap, map_at}
 use Rattle.segment_parser.specs.declared.leaf.Leaf.{Leaf}
 use Rattle.segment_parser.specs.Working.{held_of, last_id, AreThere, IsFreshAt, was_fresh, made_fresh}
-use Rattle.segment_parser.specs.Standing.{last_in, piece_in, IsAt, SameButEntries}
+use Rattle.segment_parser.specs.Standing.{last_in, piece_in, HasMaps, IsAt, SameButEntries}
 use Rattle.segment_parser.proofs.HeldLemmas.{held_push, held_parts, held_kids, front_there, last_there, length_held, last_pushed}
 use Rattle.segment_parser.proofs.AtLemmas.{last_same, floors_same, leaf_as, start_as, last_map}
 use Rattle.segment_parser.proofs.LookLemmas.{set_last}
@@ -112,7 +112,7 @@ pub record AreCut (maps : List StateMap) (s : Leaf) (count : ℕ) : Type 0 where
   pub depth : length s.ids.items - count - 1 ≡ length low
   pub stack : held_of maps s.block.kids s.ids.items ≡ (held_of maps below low ++ record { kid = kid; states = map_at maps id } ∷ []) ++ held_of maps dropped others
 
-cut_entries : (maps : List StateMap) (s : Leaf) (count : ℕ) → count < length s.ids.items → length s.block.kids ≡ length s.ids.items → AreCut maps s count
+pub cut_entries : (maps : List StateMap) (s : Leaf) (count : ℕ) → count < length s.ids.items → length s.block.kids ≡ length s.ids.items → AreCut maps s count
 cut_entries maps s count less even =
     let k = length s.ids.items - count in
     let ids = cut_at s.ids.items k (omega (arith, less)) (omega arith) in
@@ -142,7 +142,47 @@ cut_entries maps s count less even =
       stack = (λ i. held_of maps (kids.whole i) (ids.whole i)) ∙ held_parts maps (kids.low ++ kids.on_top ∷ []) kids.dropped (ids.low ++ ids.on_top ∷ []) ids.dropped fronts ∙ ap (λ l. l ++ held_of maps kids.dropped ids.dropped) (held_push maps kids.low ids.low kids.on_top ids.on_top same);
     }
 
+-- what the code has done, as a step of a piece that grows
+pub record IsTaken (t : Tables) (store new : Store) (maps : List StateMap) (s after : Leaf) (r n : ℕ) (right : List Sym) (m : Ref) (low taken : List Held) (top fresh held : Held) : Type 0 where
+  pub has : HasMaps maps after
+  pub puts : PutsNode t store new r n right m held
+  pub takes : TakesSome t new (piece_in maps s) (piece_in maps after) r n right m low taken top fresh held
+
 -- with the entry on top as it is or made fresh, `x` being the number of its map
+pub is_taken : (t : Tables) (store new : Store) (maps : List StateMap) (s after : Leaf) (r n count x : ℕ) (right : List Sym) (m : Ref) → HasMaps maps s → IsRule t.rules r n right → count ≡ length right → (taken : HasTaken t store new maps s after r n count m) (cut : AreCut maps s count) → taken.low ≡ cut.low ++ x ∷ [] → x < length maps
+    → IsTaken t store new maps s after r n right m (held_of maps cut.below cut.low) (held_of maps cut.dropped cut.others) (record { kid = cut.kid; states = map_at maps cut.id }) (record { kid = cut.kid; states = map_at maps x }) (record { kid = NodeKid m; states = map_at maps taken.to })
+is_taken t store new maps s after r n count x right m has rule sized taken cut same_low inside =
+    let top : Held = record { kid = cut.kid; states = map_at maps cut.id } in
+    let fresh : Held = record { kid = cut.kid; states = map_at maps x } in
+    let held : Held = record { kid = NodeKid m; states = map_at maps taken.to } in
+    let low = held_of maps cut.below cut.low in
+    let kids : after.block.kids ≡ (cut.below ++ cut.kid ∷ []) ++ NodeKid m ∷ [] = taken.kids ∙ ap (λ l. l ++ NodeKid m ∷ []) cut.kids_front in
+    let ids : after.ids.items ≡ (cut.low ++ x ∷ []) ++ taken.to ∷ [] = taken.ids ∙ ap (λ l. l ++ taken.to ∷ []) same_low in
+    let fronts : length (cut.below ++ cut.kid ∷ []) ≡ length (cut.low ++ x ∷ []) = let a = length-append cut.below (cut.kid ∷ []) in let b = length-append cut.low (x ∷ []) in let e = cut.even in omega (arith, a, b, e) in
+    let stack : (piece_in maps after).stack ≡ (low ++ fresh ∷ []) ++ held ∷ [] = (λ i. held_of maps (kids i) (ids i)) ∙ held_push maps (cut.below ++ cut.kid ∷ []) (cut.low ++ x ∷ []) (NodeKid m) taken.to fronts ∙ ap (λ l. l ++ held ∷ []) (held_push maps cut.below cut.low cut.kid x cut.even) in
+    let kid_list : drop (length s.ids.items - count) s.block.kids ≡ kids_of (held_of maps cut.dropped cut.others) = cut.kids_back ∙ sym (held_kids maps cut.dropped cut.others cut.even_dropped) in
+    let goes : IsThenSymbol t (Name n) (map_at maps x) (map_at maps taken.to) = subst (λ k. IsThenSymbol t (Name n) (map_at maps k) (map_at maps taken.to)) (ap last_id same_low ∙ last_pushed cut.low x) taken.goes.is in
+    let front : AreThere maps cut.low = front_there maps cut.low cut.id (there_front maps (cut.low ++ cut.id ∷ []) cut.others (subst (λ l. AreThere maps l) cut.ids_whole has.there)) in
+    let there : AreThere maps ((cut.low ++ x ∷ []) ++ taken.to ∷ []) = All-push {X = ℕ} (λ id. id < length maps) (cut.low ++ x ∷ []) taken.to (All-push {X = ℕ} (λ id. id < length maps) cut.low x front inside) taken.goes.within in
+    record {
+      has = record {
+        even = (let a = ap length kids ∙ length-append (cut.below ++ cut.kid ∷ []) (NodeKid m ∷ []) in let b = ap length ids ∙ length-append (cut.low ++ x ∷ []) (taken.to ∷ []) in omega (arith, a, b, fronts));
+        there = subst (λ l. AreThere maps l) (sym ids) there;
+        starts = subst (λ (k : ℕ). k < length maps) (sym taken.same.starts) has.starts;
+        own = subst (λ (k : ℕ). HasMap maps k (IsIdentityOf (map_at maps after.starts))) (sym taken.same.own) (subst (λ (k : ℕ). HasMap maps s.own (IsIdentityOf (map_at maps k))) (sym taken.same.starts) has.own);
+      };
+      puts = puts_node t store new r n right m (drop (length s.ids.items - count) s.block.kids) (map_at maps taken.to) rule taken.node;
+      takes = record {
+        first = taken.same.first;
+        floors = floors_same maps s after taken.same;
+        parts = cut.stack;
+        stack = stack;
+        count = length_held maps cut.dropped cut.others cut.even_dropped ∙ cut.many ∙ sized;
+        node = taken.node.some ∙ ap (λ l. Some (r, l)) kid_list;
+        map = goes;
+      };
+    }
+
 took_at : (t : Tables) (store new : Store) (maps : List StateMap) (s after : Leaf) (tokens w rest : List TextToken) (token : TextToken) (r n count x : ℕ) (right : List Sym) (m : Ref) (at : IsAt t store maps s tokens w rest (token ∷ [])) → IsRule t.rules r n right → count ≡ length right → (taken : HasTaken t store new maps s after r n count m) (cut : AreCut maps s count) → taken.low ≡ cut.low ++ x ∷ [] → x < length maps
     → (TakesSome t new (piece_in maps s) (piece_in maps after) r n right m (held_of maps cut.below cut.low) (held_of maps cut.dropped cut.others) (record { kid = cut.kid; states = map_at maps cut.id }) (record { kid = cut.kid; states = map_at maps x }) (record { kid = NodeKid m; states = map_at maps taken.to })
     → PutsNode t store new r n right m (record { kid = NodeKid m; states = map_at maps taken.to })
@@ -153,36 +193,14 @@ took_at t store new maps s after tokens w rest token r n count x right m at rule
     let fresh : Held = record { kid = cut.kid; states = map_at maps x } in
     let held : Held = record { kid = NodeKid m; states = map_at maps taken.to } in
     let low = held_of maps cut.below cut.low in
-    let kids : after.block.kids ≡ (cut.below ++ cut.kid ∷ []) ++ NodeKid m ∷ [] = taken.kids ∙ ap (λ l. l ++ NodeKid m ∷ []) cut.kids_front in
-    let ids : after.ids.items ≡ (cut.low ++ x ∷ []) ++ taken.to ∷ [] = taken.ids ∙ ap (λ l. l ++ taken.to ∷ []) same_low in
-    let fronts : length (cut.below ++ cut.kid ∷ []) ≡ length (cut.low ++ x ∷ []) = let a = length-append cut.below (cut.kid ∷ []) in let b = length-append cut.low (x ∷ []) in let e = cut.even in omega (arith, a, b, e) in
-    let stack : (piece_in maps after).stack ≡ (low ++ fresh ∷ []) ++ held ∷ [] = (λ i. held_of maps (kids i) (ids i)) ∙ held_push maps (cut.below ++ cut.kid ∷ []) (cut.low ++ x ∷ []) (NodeKid m) taken.to fronts ∙ ap (λ l. l ++ held ∷ []) (held_push maps cut.below cut.low cut.kid x cut.even) in
-    let puts = puts_node t store new r n right m (drop (length s.ids.items - count) s.block.kids) (map_at maps taken.to) rule taken.node in
-    let kid_list : drop (length s.ids.items - count) s.block.kids ≡ kids_of (held_of maps cut.dropped cut.others) = cut.kids_back ∙ sym (held_kids maps cut.dropped cut.others cut.even_dropped) in
-    let goes : IsThenSymbol t (Name n) (map_at maps x) (map_at maps taken.to) = subst (λ k. IsThenSymbol t (Name n) (map_at maps k) (map_at maps taken.to)) (ap last_id same_low ∙ last_pushed cut.low x) taken.goes.is in
-    let takes : TakesSome t new (piece_in maps s) (piece_in maps after) r n right m low (held_of maps cut.dropped cut.others) top fresh held = record {
-      first = taken.same.first;
-      floors = floors_same maps s after taken.same;
-      parts = cut.stack;
-      stack = stack;
-      count = length_held maps cut.dropped cut.others cut.even_dropped ∙ cut.many ∙ sized;
-      node = taken.node.some ∙ ap (λ l. Some (r, l)) kid_list;
-      map = goes;
-    } in
-    let leaf = law takes puts in
-    let last = sym (last_same maps s after taken.same) in
-    let front : AreThere maps cut.low = front_there maps cut.low cut.id (there_front maps (cut.low ++ cut.id ∷ []) cut.others (subst (λ l. AreThere maps l) cut.ids_whole at.has.there)) in
-    let there : AreThere maps ((cut.low ++ x ∷ []) ++ taken.to ∷ []) = All-push {X = ℕ} (λ id. id < length maps) (cut.low ++ x ∷ []) taken.to (All-push {X = ℕ} (λ id. id < length maps) cut.low x front inside) taken.goes.within in (
+    let took : IsTaken t store new maps s after r n right m low (held_of maps cut.dropped cut.others) top fresh held = is_taken t store new maps s after r n count x right m at.has rule sized taken cut same_low inside in
+    let leaf = law took.takes took.puts in
+    let last = sym (last_same maps s after taken.same) in (
       record {
-        has = record {
-          even = (let a = ap length kids ∙ length-append (cut.below ++ cut.kid ∷ []) (NodeKid m ∷ []) in let b = ap length ids ∙ length-append (cut.low ++ x ∷ []) (taken.to ∷ []) in omega (arith, a, b, fronts));
-          there = subst (λ l. AreThere maps l) (sym ids) there;
-          starts = subst (λ (k : ℕ). k < length maps) (sym taken.same.starts) at.has.starts;
-          own = subst (λ (k : ℕ). HasMap maps k (IsIdentityOf (map_at maps after.starts))) (sym taken.same.own) (subst (λ (k : ℕ). HasMap maps s.own (IsIdentityOf (map_at maps k))) (sym taken.same.starts) at.has.own);
-        };
+        has = took.has;
         closed = at.closed;
         same = taken.same.closed ∙ at.same;
-        parsing = takes_some_parsing_law t store new tokens at.closed (piece_in maps s) (piece_in maps after) w rest r n right m low (held_of maps cut.dropped cut.others) top fresh held at.parsing puts takes refl taken.tokens;
+        parsing = takes_some_parsing_law t store new tokens at.closed (piece_in maps s) (piece_in maps after) w rest r n right m low (held_of maps cut.dropped cut.others) top fresh held at.parsing took.puts took.takes refl taken.tokens;
         under = low ++ fresh ∷ [];
         last = held;
         leaf = leaf_as refl (sym taken.same.floors) last refl leaf.0;

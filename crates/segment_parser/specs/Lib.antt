@@ -1,3 +1,4 @@
 pub mod Working
 pub mod Standing
 pub mod Settling
+pub mod Opening

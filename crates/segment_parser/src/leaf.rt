@@ -1,9 +1,15 @@
 ghost use Rattle.std.specs.Prelude.{◌≡◌, ℕ, ◌+◌, ◌-◌, ◌^◌, ◌<◌, ◌≤◌, [], ◌∷◌, ◌++◌, length, List, IfOk, OnOk, slice_set, take, drop, replicate, Some, None};
 ghost use Rattle.grammar_data.specs.declared.rule.Sym.TheVariants.{Name};
 ghost use Rattle.grammar_data.specs.declared.rule.Sym.{Sym as Symbol};
+ghost use Rattle.grammar_data.specs.declared.token.Token.{Token as TextToken};
 ghost use Rattle.grammar_theory.specs.Rules.{IsRule};
+ghost use Rattle.tree_theory.specs.Stores.{Ref, Store as NodeTable};
+ghost use Rattle.tree_theory.specs.Walks.{Step};
+ghost use Rattle.lawful_theory.specs.Lawful.{IsLawful};
+ghost use Rattle.context_laws.specs.Contexts.{LeadFromStates};
+ghost use Rattle.segment_parser.specs.Opening.{IsOpenIn};
 ghost use Rattle.node_data.specs.declared.kid.Kid.TheVariants.{Token as TokenKid, Node as NodeKid, Hidden};
-ghost use Rattle.map_theory.specs.Relations.{AreShiftStarts, IsBack, IsIdentityOf, IsRestricted, IsThenSymbol};
+ghost use Rattle.map_theory.specs.Relations.{AreAlive, AreShiftStarts, IsBack, IsIdentityOf, IsRestricted, IsThenSymbol};
 ghost use Rattle.node_store.specs.Chunks.{HasChunk, StoresNode, numbers_in, store_of};
 ghost use Rattle.state_sets.specs.Within.{HasSymbol};
 ghost use Rattle.arrow_table.specs.Looks.{Grows, HasMap, map_at};
@@ -221,7 +227,7 @@ impl Leaf {
             × (self.new.own ≡ self.old.own) × (self.new.stale ≡ self.old.stale) × (self.new.first ≡ self.old.first)
             × (self.new.count ≡ self.old.count)) }
     {
-        let starts = arrows.copy(alloc, self.starts)?;
+        let starts = arrows.copy(self.starts)?;
         let faults = std::mem::replace(&mut self.faults, Vec::new(alloc));
         let opened = self.opened;
         self.block.push_floor(Floor::new(opened, starts, faults))?;
@@ -315,6 +321,11 @@ impl Leaf {
         ensures block { self.new.block ≡ self.old.block }
         ensures same { OnOk result ((self.new.opened ≡ self.old.opened) × (self.new.first ≡ self.old.first)
             × (self.new.count ≡ self.old.count)) }
+        ensures open { OnOk result ((store : NodeTable) (nodes : List Ref) (front : List Step) (w : List TextToken)
+            → IsLawful arrows.old.0 → LeadFromStates arrows.old.0
+            → AreAlive arrows.old.0 token.now.id (map_at arrows.old.1 (last_id self.old.ids.items)) (map_at arrows.old.1 alive)
+            → IsOpenIn arrows.old.0 store arrows.old.1 self.old nodes front w (token.now ∷ [])
+            → IsOpenIn arrows.old.0 store arrows.new.1 self.new nodes front w (token.now ∷ [])) }
     {
         let last = self.ids.len() - 1;
         let top = self.top();

@@ -2,6 +2,8 @@ ghost use Rattle.std.specs.Prelude.{◌≡◌, ◌≢◌, ℕ, ◌+◌, ◌<◌,
 ghost use Rattle.grammar_data.specs.declared.rule.Sym.{Sym as Symbol};
 ghost use Rattle.grammar_data.specs.declared.token.Token.{Token as TextToken};
 ghost use Rattle.grammar_theory.specs.Rules.{IsRule};
+ghost use Rattle.tree_theory.specs.Stores.{Ref};
+ghost use Rattle.tree_theory.specs.Walks.{Step};
 ghost use Rattle.lawful_theory.specs.Lawful.{IsLawful};
 ghost use Rattle.context_laws.specs.Contexts.{LeadFromStates};
 ghost use Rattle.leaf_laws.specs.Leaves.{HasStart, NoneErrs};
@@ -9,7 +11,9 @@ ghost use Rattle.map_theory.specs.Agreements.{AllReduce};
 ghost use Rattle.node_store.specs.Chunks.{HasChunk, numbers_in, store_of};
 ghost use Rattle.arrow_table.specs.Looks.{Grows, map_at};
 ghost use Rattle.segment_parser.specs.Working.{last_id};
+ghost use Rattle.piece_theory.specs.Laws.{HasMore};
 ghost use Rattle.segment_parser.specs.Standing.{HasMaps, IsAt, last_in, piece_in};
+ghost use Rattle.segment_parser.specs.Opening.{IsOpenIn};
 
 use crate::leaf::Leaf;
 use arrow_table::Arrows;
@@ -36,6 +40,13 @@ impl Leaf {
         ensures tables { arrows.new.0 ≡ arrows.old.0 }
         ensures grows { Grows arrows.old.1 arrows.new.1 }
         ensures chunks { OnOk result (numbers_in store.new ≡ numbers_in store.old) }
+        ensures closed { OnOk result (self.new.block.closed ≡ self.old.block.closed) }
+        ensures more { OnOk result (HasMore (store_of store.old) (store_of store.new)) }
+        ensures open { OnOk result ((nodes : List Ref) (front : List Step) (w : List TextToken) (token : TextToken)
+            → IsOpenIn arrows.old.0 (store_of store.old) arrows.old.1 self.old nodes front w (token ∷ [])
+            → NoneErrs arrows.old.0 token.id (map_at arrows.old.1 (last_id self.old.ids.items))
+            → AllReduce arrows.old.0 token.id rule (map_at arrows.old.1 (last_id self.old.ids.items))
+            → IsOpenIn arrows.old.0 (store_of store.new) arrows.new.1 self.new nodes front w (token ∷ [])) }
         ensures at { OnOk result ((tokens w rest : List TextToken) (token : TextToken)
             → IsAt arrows.old.0 (store_of store.old) arrows.old.1 self.old tokens w rest (token ∷ [])
             → NoneErrs arrows.old.0 token.id (map_at arrows.old.1 (last_id self.old.ids.items))
@@ -69,6 +80,13 @@ impl Leaf {
         ensures tables { arrows.new.0 ≡ arrows.old.0 }
         ensures grows { Grows arrows.old.1 arrows.new.1 }
         ensures chunks { OnOk result (numbers_in store.new ≡ numbers_in store.old) }
+        ensures closed { OnOk result (self.new.block.closed ≡ self.old.block.closed) }
+        ensures more { OnOk result (HasMore (store_of store.old) (store_of store.new)) }
+        ensures open { OnOk result ((nodes : List Ref) (front : List Step) (w : List TextToken) (token : TextToken)
+            → IsOpenIn arrows.old.0 (store_of store.old) arrows.old.1 self.old nodes front w (token ∷ [])
+            → NoneErrs arrows.old.0 token.id (map_at arrows.old.1 (last_id self.old.ids.items))
+            → AllReduce arrows.old.0 token.id rule (map_at arrows.old.1 (last_id self.old.ids.items))
+            → IsOpenIn arrows.old.0 (store_of store.new) arrows.new.1 self.new nodes front w (token ∷ [])) }
         ensures at { OnOk result ((tokens w rest : List TextToken) (token : TextToken)
             → IsAt arrows.old.0 (store_of store.old) arrows.old.1 self.old tokens w rest (token ∷ [])
             → NoneErrs arrows.old.0 token.id (map_at arrows.old.1 (last_id self.old.ids.items))
@@ -104,6 +122,13 @@ impl Leaf {
         ensures tables { arrows.new.0 ≡ arrows.old.0 }
         ensures grows { Grows arrows.old.1 arrows.new.1 }
         ensures chunks { OnOk result (numbers_in store.new ≡ numbers_in store.old) }
+        ensures closed { OnOk result (self.new.block.closed ≡ self.old.block.closed) }
+        ensures more { OnOk result (HasMore (store_of store.old) (store_of store.new)) }
+        ensures open { OnOk result ((nodes : List Ref) (front : List Step) (w : List TextToken) (token : TextToken)
+            → IsOpenIn arrows.old.0 (store_of store.old) arrows.old.1 self.old nodes front w (token ∷ [])
+            → NoneErrs arrows.old.0 token.id (map_at arrows.old.1 (last_id self.old.ids.items))
+            → AllReduce arrows.old.0 token.id rule (map_at arrows.old.1 (last_id self.old.ids.items))
+            → IsOpenIn arrows.old.0 (store_of store.new) arrows.new.1 self.new nodes front w (token ∷ [])) }
         ensures at { OnOk result ((tokens w rest : List TextToken) (token : TextToken)
             → IsAt arrows.old.0 (store_of store.old) arrows.old.1 self.old tokens w rest (token ∷ [])
             → NoneErrs arrows.old.0 token.id (map_at arrows.old.1 (last_id self.old.ids.items))
@@ -134,6 +159,13 @@ impl Leaf {
         ensures tables { arrows.new.0 ≡ arrows.old.0 }
         ensures grows { Grows arrows.old.1 arrows.new.1 }
         ensures chunks { OnOk result (numbers_in store.new ≡ numbers_in store.old) }
+        ensures closed { OnOk result (self.new.block.closed ≡ self.old.block.closed) }
+        ensures more { OnOk result (HasMore (store_of store.old) (store_of store.new)) }
+        ensures open { OnOk result ((nodes : List Ref) (front : List Step) (w : List TextToken) (token : TextToken)
+            → IsOpenIn arrows.old.0 (store_of store.old) arrows.old.1 self.old nodes front w (token ∷ [])
+            → NoneErrs arrows.old.0 token.id (map_at arrows.old.1 (last_id self.old.ids.items))
+            → AllReduce arrows.old.0 token.id rule (map_at arrows.old.1 (last_id self.old.ids.items))
+            → IsOpenIn arrows.old.0 (store_of store.new) arrows.new.1 self.new nodes front w (token ∷ [])) }
         ensures at { OnOk result ((tokens w rest : List TextToken) (token : TextToken)
             → IsAt arrows.old.0 (store_of store.old) arrows.old.1 self.old tokens w rest (token ∷ [])
             → NoneErrs arrows.old.0 token.id (map_at arrows.old.1 (last_id self.old.ids.items))

@@ -9,4 +9,5 @@ mod gathering;
 mod parts;
 mod putting;
 
+pub use filling::fill;
 pub use finishing::finish;

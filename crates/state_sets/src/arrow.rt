@@ -4,7 +4,8 @@ ghost use Rattle.map_theory.specs.Maps.{IsRising, followed, target};
 ghost use Rattle.map_theory.specs.Agreements.{Agrees};
 ghost use Rattle.map_theory.specs.Relations.{AreAlive, IsBack, IsComposed, IsIdentityOf, IsRestricted, IsThenSymbol};
 ghost use Rattle.state_sets.specs.Classes.{targets_of};
-ghost use Rattle.state_sets.specs.Parts.{AreClassed, pairs_of};
+ghost use Rattle.std.specs.Arc.{arc_value};
+ghost use Rattle.state_sets.specs.Parts.{AreClassed, IsArrow, pairs_of};
 ghost use Rattle.state_sets.specs.Within.{AreWithin, HasSymbol};
 
 use crate::agreeing::agreement;
@@ -22,9 +23,15 @@ use std::marker::Model;
 use std::sync::Arc;
 
 /// A finite map from states, its starts, to states, its targets, which contracts see as the list of its pairs with rising
-/// starts. Starts with one target are a class. The list of starts may be shared with other maps.
+/// starts. A copy shares its lists.
 #[derive(Debug, Drop)]
 pub struct Arrow {
+    parts: Arc<Parts, Global>,
+}
+
+/// The lists of a map: the starts, which other maps may share, the class of each, and the target of each class.
+#[derive(Debug, Drop)]
+struct Parts {
     starts: Arc<Vec<StateId>, Global>,
     classes: Vec<u32>,
     targets: Vec<StateId>,
@@ -37,9 +44,11 @@ impl Model for Arrow {
 
     ghost Value = { StateMap };
 
-    ghost view = { λ s. pairs_of (arc_value s.starts).items s.classes.items s.targets.items };
+    ghost view = { λ s. pairs_of (arc_value (arc_value s.parts).starts).items (arc_value s.parts).classes.items
+        (arc_value s.parts).targets.items };
 
-    ghost invariant = { λ s. IsArrow (arc_value s.starts).items s.classes.items s.targets.items };
+    ghost invariant = { λ s. IsArrow (arc_value (arc_value s.parts).starts).items (arc_value s.parts).classes.items
+        (arc_value s.parts).targets.items };
 }
 
 impl Arrow {
@@ -48,14 +57,14 @@ impl Arrow {
         ensures rising { IsRising self.now }
         ensures few { length self.now ≤ MOST_STATES }
     {
-        let _ = &self.classes;
+        let _ = &self.parts;
     }
 
     /// How many pairs there are.
     pub fn len(&self) -> u32
         ensures { result ≡ length self.now }
     {
-        self.classes.len() as u32
+        self.parts.classes.len() as u32
     }
 
     /// A pair, a start and its target, in the order of the starts.
@@ -63,21 +72,31 @@ impl Arrow {
         requires { i < length self.now }
         ensures { slice_get self.now i ≡ Some result }
     {
-        pair_in(&self.starts, &self.classes, &self.targets, i as usize)
+        pair_in(
+            &self.parts.starts,
+            &self.parts.classes,
+            &self.parts.targets,
+            i as usize,
+        )
     }
 
     /// The target of a start; `None` exactly where it is none.
     pub fn target(&self, start: StateId) -> Option<StateId>
         ensures { result ≡ target self.now start }
     {
-        target_in(&self.starts, &self.classes, &self.targets, start)
+        target_in(
+            &self.parts.starts,
+            &self.parts.classes,
+            &self.parts.targets,
+            start,
+        )
     }
 
     /// How many classes there are: so many different targets.
     pub fn class_count(&self) -> u32
         ensures { result ≡ length (targets_of self.now) }
     {
-        self.targets.len() as u32
+        self.parts.targets.len() as u32
     }
 
     /// The number of the class of a start, below the number of classes; `None` exactly where it is none. Starts are in one
@@ -87,7 +106,12 @@ impl Arrow {
         ensures class { IfSome result (λ k. (k < length (targets_of self.now))
             × (slice_get (targets_of self.now) k ≡ target self.now start)) }
     {
-        class_in(&self.starts, &self.classes, &self.targets, start)
+        class_in(
+            &self.parts.starts,
+            &self.parts.classes,
+            &self.parts.targets,
+            start,
+        )
     }
 
     /// The target of a class.
@@ -95,7 +119,7 @@ impl Arrow {
         requires { class < length (targets_of self.now) }
         ensures { slice_get (targets_of self.now) class ≡ Some result }
     {
-        self.targets[class as usize]
+        self.parts.targets[class as usize]
     }
 
     /// In what the targets agree on a token, those that err left aside.
@@ -103,21 +127,25 @@ impl Arrow {
         requires within { AreWithin t.now.states self.now }
         ensures { Agrees t.now token self.now result }
     {
-        agreement(t, &self.targets, token)
+        agreement(t, &self.parts.targets, token)
     }
 
-    /// The same map once more; the list of starts is shared.
-    pub fn copy(&self, alloc: Global) -> Result<Arrow, NoMemory>
+    /// The same map once more; its lists are shared.
+    pub fn copy(&self) -> Result<Arrow, NoMemory>
         ensures { IfOk result (λ arrow. arrow ≡ self.now) }
     {
-        let mut classes = Vec::with_capacity(alloc, self.classes.len())?;
-        classes.extend_from_slice(&self.classes)?;
-        let mut targets = Vec::with_capacity(alloc, self.targets.len())?;
-        targets.extend_from_slice(&self.targets)?;
         Ok(Arrow {
-            starts: Arc::try_clone(&self.starts)?,
-            classes,
-            targets,
+            parts: Arc::try_clone(&self.parts)?,
+        })
+    }
+
+    /// The map that has these lists.
+    fn of_parts(alloc: Global, parts: Parts) -> Result<Arrow, NoMemory>
+        requires { IsArrow (arc_value parts.starts).items parts.classes.items parts.targets.items }
+        ensures { IfOk result (λ arrow. arrow ≡ pairs_of (arc_value parts.starts).items parts.classes.items parts.targets.items) }
+    {
+        Ok(Arrow {
+            parts: Arc::new(alloc, parts)?,
         })
     }
 
@@ -135,11 +163,15 @@ impl Arrow {
             targets: numbers,
         } = building;
         let targets = states_of(alloc, numbers.as_slice())?;
-        Ok(Arrow {
-            starts: Arc::new(alloc, starts)?,
-            classes,
-            targets,
-        })
+        let starts = Arc::new(alloc, starts)?;
+        Arrow::of_parts(
+            alloc,
+            Parts {
+                starts,
+                classes,
+                targets,
+            },
+        )
     }
 
     /// The same, where the starts are those of this map, whose list is shared.
@@ -151,11 +183,16 @@ impl Arrow {
             ≡ pairs_of building.starts.items building.classes.items building.targets.keys) }
     {
         let targets = states_of(alloc, building.targets.as_slice())?;
-        Ok(Arrow {
-            starts: Arc::try_clone(&self.starts)?,
-            classes: building.classes,
-            targets,
-        })
+        let starts = Arc::try_clone(&self.parts.starts)?;
+        let classes = building.classes;
+        Arrow::of_parts(
+            alloc,
+            Parts {
+                starts,
+                classes,
+                targets,
+            },
+        )
     }
 
     /// The map of what a function makes of the targets, by the list of its values at the target of each class.
@@ -164,8 +201,8 @@ impl Arrow {
         ensures { IfOk result (λ arrow. (f : ℕ → Option ℕ) → images.now ≡ map f (targets_of self.now)
             → arrow ≡ followed (λ q p. f p) self.now) }
     {
-        let building = spread(alloc, &self.starts, &self.classes, images)?;
-        if building.starts.len() == self.starts.len() {
+        let building = spread(alloc, &self.parts.starts, &self.parts.classes, images)?;
+        if building.starts.len() == self.parts.starts.len() {
             return self.with_pairs(alloc, building);
         }
         Arrow::built(alloc, building)
@@ -179,7 +216,7 @@ impl Arrow {
         ensures within { IfOk result (AreWithin t.now.states) }
     {
         t.holds();
-        let images = after_symbol(alloc, t, &self.targets, &symbol)?;
+        let images = after_symbol(alloc, t, &self.parts.targets, &symbol)?;
         self.along(alloc, &images)
     }
 
@@ -218,7 +255,7 @@ impl Arrow {
         ensures composed { IfOk result (IsComposed self.now next.now) }
         ensures within { (n : ℕ) → AreWithin n self.now → AreWithin n next.now → IfOk result (AreWithin n) }
     {
-        let images = through(alloc, &self.targets, next)?;
+        let images = through(alloc, &self.parts.targets, next)?;
         self.along(alloc, &images)
     }
 
@@ -228,7 +265,7 @@ impl Arrow {
         ensures alive { IfOk result (AreAlive t.now token self.now) }
         ensures within { IfOk result (AreWithin t.now.states) }
     {
-        let images = alive_on(alloc, t, &self.targets, token)?;
+        let images = alive_on(alloc, t, &self.parts.targets, token)?;
         self.along(alloc, &images)
     }
 }

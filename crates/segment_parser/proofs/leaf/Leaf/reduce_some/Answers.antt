@@ -9,7 +9,9 @@ use Rattle.node_store.specs.Chunks.{store_of}
 use Rattle.table_data.specs.Tables.{Tables}
 use Rattle.arrow_table.specs.Looks.{HasMap, map_at}
 use Rattle.segment_parser.specs.Working.{last_id, AreThere, IsFreshAt}
-use Rattle.segment_parser.proofs.ReduceLemmas.{rule_inside, taken_there, fresh_there, fresh_length, last_inside, reduce_some_at}
+use Rattle.segment_parser.proofs.ReduceLemmas.{rule_inside, taken_there, fresh_there, fresh_length, last_inside, some_taken, reduce_some_at}
+use Rattle.segment_parser.proofs.OpenLemmas.{reduce_some_open}
+use Rattle.segment_parser.proofs.HeldLemmas.{grows_then}
 use Rattle.segment_parser.proofs.leaf.Leaf.reduce_some.Goals as goal
 
 pub freshen-requires-clause-there : goal.freshen-requires-clause-there
@@ -57,8 +59,37 @@ returns-clause-at c tokens w rest token at none all =
     let goes1 : HasMap final to (IsThenSymbol t (Name c.left-name.result) (map_at mid c.top-below.result)) = subst (λ (x : Tables). HasMap final to (IsThenSymbol x (Name c.left-name.result) (map_at mid c.top-below.result))) same_tables put.ids.2 in
     let goes2 : HasMap final to (IsThenSymbol t (Name rule.0) (map_at mid c.top-below.result)) = subst (λ (x : ℕ). HasMap final to (IsThenSymbol t (Name x) (map_at mid c.top-below.result))) (sym name) goes1 in
     let goes : HasMap final to (IsThenSymbol t (Name rule.0) (map_at mid (last_id s2.ids.items))) = subst (λ (x : ℕ). HasMap final to (IsThenSymbol t (Name rule.0) (map_at mid x))) c.top-below.ensures goes2 in
-    reduce_some_at t c.requires.lawful (store_of c.args.store.now) (store_of c.take.new.store) maps mid final s s1 s2 after c.args.rule rule.0 c.args.count rule.1 c.in_ok-node.node to rule.2 rule.3 c.requires.count
+    let grows = grows_then maps mid final c.freshen.ensures.grows c.put_node.ensures.grows in
+    let taken = some_taken t (store_of c.args.store.now) (store_of c.take.new.store) maps mid final s s1 s2 after c.args.rule rule.0 c.args.count c.in_ok-node.node to c.requires.count c.requires.maps
     c.in_ok-node.ensures.same c.in_ok-node.ensures.stale c.in_ok-node.ensures.count c.in_ok-node.ensures.kids c.in_ok-node.ensures.ids c.in_ok-node.ensures.trees
     c.freshen.ensures.grows fresh c.freshen.ensures.same (ap (λ b. b.kids) c.freshen.ensures.block) c.freshen.ensures.count
-    c.put_node.ensures.grows put.same put.stale put.count put.kids put.ids.1 goes
-    tokens w rest token at none all
+    c.put_node.ensures.grows put.same put.stale put.count put.kids put.ids.1 goes in
+    reduce_some_at t c.requires.lawful (store_of c.args.store.now) (store_of c.take.new.store) maps final s after c.args.rule rule.0 c.args.count rule.1 c.in_ok-node.node rule.2 rule.3 c.requires.count grows taken tokens w rest token at none all
+
+pub returns-clause-open : goal.returns-clause-open
+returns-clause-open c nodes front w token is none all =
+    let t = c.args.arrows.now.0 in
+    let maps = c.args.arrows.now.1 in
+    let mid = c.freshen.new.arrows.1 in
+    let final = c.put_node.new.arrows.1 in
+    let s = c.args.self.now in
+    let s1 = c.take.new.self in
+    let s2 = c.freshen.new.self in
+    let after = c.put_node.new.self in
+    let rule = c.requires.rule in
+    let put = c.in_ok-put_node.ensures in
+    let depth : c.len-depth.result - 1 ≡ length s1.ids.items - 1 = let e = c.len-depth.ensures in let f = s1.ids.ok.0 in omega (arith, e, f) in
+    let fresh : IsFreshAt maps mid s1.starts s1.stale s2.stale (length s1.ids.items - 1) s1.ids.items s2.ids.items = subst (λ (k : ℕ). IsFreshAt maps mid s1.starts s1.stale s2.stale k s1.ids.items s2.ids.items) depth c.in_ok-freshen.ensures.fresh in
+    let same_tables : c.freshen.new.arrows.0 ≡ t = c.freshen.ensures.tables in
+    let here : c.tables.result.now ≡ t = c.tables.ensures ∙ same_tables in
+    let name : rule.0 ≡ c.left-name.result = same_left rule.1 (sym (ap (λ o. option_map {T = Rule} {U = ℕ} (λ r. r.0) o) rule.2.found) ∙ ap (λ (x : Tables). option_map {T = Rule} {U = ℕ} (λ r. r.0) (slice_get x.rules c.args.rule)) (sym here) ∙ c.left-name.ensures.left) in
+    let to = put.ids.0 in
+    let goes1 : HasMap final to (IsThenSymbol t (Name c.left-name.result) (map_at mid c.top-below.result)) = subst (λ (x : Tables). HasMap final to (IsThenSymbol x (Name c.left-name.result) (map_at mid c.top-below.result))) same_tables put.ids.2 in
+    let goes2 : HasMap final to (IsThenSymbol t (Name rule.0) (map_at mid c.top-below.result)) = subst (λ (x : ℕ). HasMap final to (IsThenSymbol t (Name x) (map_at mid c.top-below.result))) (sym name) goes1 in
+    let goes : HasMap final to (IsThenSymbol t (Name rule.0) (map_at mid (last_id s2.ids.items))) = subst (λ (x : ℕ). HasMap final to (IsThenSymbol t (Name rule.0) (map_at mid x))) c.top-below.ensures goes2 in
+    let grows = grows_then maps mid final c.freshen.ensures.grows c.put_node.ensures.grows in
+    let taken = some_taken t (store_of c.args.store.now) (store_of c.take.new.store) maps mid final s s1 s2 after c.args.rule rule.0 c.args.count c.in_ok-node.node to c.requires.count c.requires.maps
+    c.in_ok-node.ensures.same c.in_ok-node.ensures.stale c.in_ok-node.ensures.count c.in_ok-node.ensures.kids c.in_ok-node.ensures.ids c.in_ok-node.ensures.trees
+    c.freshen.ensures.grows fresh c.freshen.ensures.same (ap (λ b. b.kids) c.freshen.ensures.block) c.freshen.ensures.count
+    c.put_node.ensures.grows put.same put.stale put.count put.kids put.ids.1 goes in
+    reduce_some_open t c.requires.lawful (store_of c.args.store.now) (store_of c.take.new.store) maps final s after c.args.rule rule.0 c.args.count rule.1 c.in_ok-node.node rule.2 rule.3 c.requires.count grows taken nodes front w token is none all

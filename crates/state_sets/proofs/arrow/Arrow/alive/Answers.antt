@@ -11,21 +11,21 @@ use Rattle.state_sets.proofs.arrow.Arrow.alive.Goals as goal
 
 pub alive_on-requires : goal.alive_on-requires
 alive_on-requires c =
-    let targets : targets_of c.args.self.now ≡ c.deref.result.now = ap targets_of (sym c.self.view_is) ∙ sym c.self.invariant.classed.different ∙ sym c.deref.ensures.value in
+    let targets : targets_of c.args.self.now ≡ c.deref-2.result.now = ap targets_of (sym c.self.view_is) ∙ sym c.self.invariant.classed.different ∙ sym (c.deref-2.ensures.value ∙ ap (λ p. p.targets.items) c.deref.ensures) in
     subst (λ l. All (λ p. p < c.args.t.now.states) l) targets (targets_within c.args.t.now.states c.args.self.now c.requires.within)
 
 pub returns-clause-alive : goal.returns-clause-alive
 returns-clause-alive c =
-    let targets : targets_of c.args.self.now ≡ c.deref.result.now = ap targets_of (sym c.self.view_is) ∙ sym c.self.invariant.classed.different ∙ sym c.deref.ensures.value in
-    let images : c.in_ok-images.images.items ≡ map (λ p. cond (is_error (act_in c.args.t.now p c.args.token)) None (Some p)) c.deref.result.now = c.in_ok-images.ensures in
+    let targets : targets_of c.args.self.now ≡ c.deref-2.result.now = ap targets_of (sym c.self.view_is) ∙ sym c.self.invariant.classed.different ∙ sym (c.deref-2.ensures.value ∙ ap (λ p. p.targets.items) c.deref.ensures) in
+    let images : c.in_ok-images.images.items ≡ map (λ p. cond (is_error (act_in c.args.t.now p c.args.token)) None (Some p)) c.deref-2.result.now = c.in_ok-images.ensures in
     let rising : IsRising c.args.self.now = subst IsRising c.self.view_is c.self.invariant.rising in
-    if_ok (λ m. (f : ℕ → Option ℕ) → c.deref-2.result.now ≡ map f (targets_of c.args.self.now) → m ≡ followed (λ q p. f p) c.args.self.now) (AreAlive c.args.t.now c.args.token c.args.self.now) c.along.result c.along.ensures
-    (λ m is. followed_is (λ p. cond (is_error (act_in c.args.t.now p c.args.token)) None (Some p)) c.args.self.now m rising (is (λ p. cond (is_error (act_in c.args.t.now p c.args.token)) None (Some p)) (c.deref-2.ensures.value ∙ images ∙ ap (map (λ p. cond (is_error (act_in c.args.t.now p c.args.token)) None (Some p))) (sym targets))))
+    if_ok (λ m. (f : ℕ → Option ℕ) → c.deref-3.result.now ≡ map f (targets_of c.args.self.now) → m ≡ followed (λ q p. f p) c.args.self.now) (AreAlive c.args.t.now c.args.token c.args.self.now) c.along.result c.along.ensures
+    (λ m is. followed_is (λ p. cond (is_error (act_in c.args.t.now p c.args.token)) None (Some p)) c.args.self.now m rising (is (λ p. cond (is_error (act_in c.args.t.now p c.args.token)) None (Some p)) (c.deref-3.ensures.value ∙ images ∙ ap (map (λ p. cond (is_error (act_in c.args.t.now p c.args.token)) None (Some p))) (sym targets))))
 
 pub returns-clause-within : goal.returns-clause-within
 returns-clause-within c =
-    let targets : targets_of c.args.self.now ≡ c.deref.result.now = ap targets_of (sym c.self.view_is) ∙ sym c.self.invariant.classed.different ∙ sym c.deref.ensures.value in
-    let images : c.in_ok-images.images.items ≡ map (λ p. cond (is_error (act_in c.args.t.now p c.args.token)) None (Some p)) c.deref.result.now = c.in_ok-images.ensures in
-    if_ok (λ m. (f : ℕ → Option ℕ) → c.deref-2.result.now ≡ map f (targets_of c.args.self.now) → m ≡ followed (λ q p. f p) c.args.self.now) (AreWithin c.args.t.now.states) c.along.result c.along.ensures
+    let targets : targets_of c.args.self.now ≡ c.deref-2.result.now = ap targets_of (sym c.self.view_is) ∙ sym c.self.invariant.classed.different ∙ sym (c.deref-2.ensures.value ∙ ap (λ p. p.targets.items) c.deref.ensures) in
+    let images : c.in_ok-images.images.items ≡ map (λ p. cond (is_error (act_in c.args.t.now p c.args.token)) None (Some p)) c.deref-2.result.now = c.in_ok-images.ensures in
+    if_ok (λ m. (f : ℕ → Option ℕ) → c.deref-3.result.now ≡ map f (targets_of c.args.self.now) → m ≡ followed (λ q p. f p) c.args.self.now) (AreWithin c.args.t.now.states) c.along.result c.along.ensures
     (λ m is. followed_in c.args.t.now.states (λ p. cond (is_error (act_in c.args.t.now p c.args.token)) None (Some p)) c.args.self.now m c.requires.within (λ p z below step. alive_within c.args.t.now c.args.token p z below step)
-    (is (λ p. cond (is_error (act_in c.args.t.now p c.args.token)) None (Some p)) (c.deref-2.ensures.value ∙ images ∙ ap (map (λ p. cond (is_error (act_in c.args.t.now p c.args.token)) None (Some p))) (sym targets))))
+    (is (λ p. cond (is_error (act_in c.args.t.now p c.args.token)) None (Some p)) (c.deref-3.ensures.value ∙ images ∙ ap (map (λ p. cond (is_error (act_in c.args.t.now p c.args.token)) None (Some p))) (sym targets))))

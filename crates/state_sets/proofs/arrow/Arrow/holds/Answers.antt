@@ -4,4 +4,4 @@ use Rattle.state_sets.proofs.PartsLemmas.{length-pairs_of}
 use Rattle.state_sets.proofs.arrow.Arrow.holds.Goals as goal
 
 pub returns-clause-few : goal.returns-clause-few
-returns-clause-few c = omega (arith, ap length c.self.view_is, length-pairs_of (arc_value c.self.inside.starts).items c.self.inside.classes.items c.self.inside.targets.items c.self.invariant.classed.lengths)
+returns-clause-few c = omega (arith, ap length c.self.view_is, length-pairs_of (arc_value (arc_value c.self.inside.parts).starts).items (arc_value c.self.inside.parts).classes.items (arc_value c.self.inside.parts).targets.items c.self.invariant.classed.lengths)
