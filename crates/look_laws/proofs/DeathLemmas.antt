@@ -31,14 +31,14 @@ use Rattle.look_laws.specs.Deaths.{deaths, DeathsLaw, LooksByDeathsLaw, OpenLook
 
 -- ---- faults in a list
 
-fault_first : (x : Fault) (xs : List Fault) (q : ℕ) → x.start ≡ q → fault_at (x ∷ xs) q ≡ Some x
+pub fault_first : (x : Fault) (xs : List Fault) (q : ℕ) → x.start ≡ q → fault_at (x ∷ xs) q ≡ Some x
 fault_first x xs q same = cond-true (eqb x.start q) (Some x) (fault_at xs q) (eq-eqb x.start q same)
 
-fault_other : (x : Fault) (xs : List Fault) (q : ℕ) → x.start ≢ q → fault_at (x ∷ xs) q ≡ fault_at xs q
+pub fault_other : (x : Fault) (xs : List Fault) (q : ℕ) → x.start ≢ q → fault_at (x ∷ xs) q ≡ fault_at xs q
 fault_other x xs q other = cond-false (eqb x.start q) (Some x) (fault_at xs q) (ne_eqb x.start q other)
 
 -- a fault that is found is found with more behind
-fault_before : (xs ys : List Fault) (q : ℕ) → IsSome (fault_at xs q) → fault_at (xs ++ ys) q ≡ fault_at xs q
+pub fault_before : (xs ys : List Fault) (q : ℕ) → IsSome (fault_at xs q) → fault_at (xs ++ ys) q ≡ fault_at xs q
 fault_before [] ys q some = absurd (no_some {A = Fault} {o = None} refl some)
 fault_before (x ∷ xs) ys q some = cases (cases_eq x.start q) (fault_before xs ys q)
   where
@@ -46,7 +46,7 @@ fault_before (x ∷ xs) ys q some = cases (cases_eq x.start q) (fault_before xs 
     cases (inl same) go = fault_first x (xs ++ ys) q same ∙ sym (fault_first x xs q same)
     cases (inr other) go = fault_other x (xs ++ ys) q other ∙ go (sym (ap is_some (fault_other x xs q other)) ∙ some) ∙ sym (fault_other x xs q other)
 
-fault_behind : (xs ys : List Fault) (q : ℕ) → fault_at xs q ≡ None → fault_at (xs ++ ys) q ≡ fault_at ys q
+pub fault_behind : (xs ys : List Fault) (q : ℕ) → fault_at xs q ≡ None → fault_at (xs ++ ys) q ≡ fault_at ys q
 fault_behind [] ys q none = refl
 fault_behind (x ∷ xs) ys q none = cases (cases_eq x.start q) (fault_behind xs ys q)
   where
@@ -62,7 +62,7 @@ faults_tail : (x : Fault) (xs : List Fault) → AllPairs {X = Fault} (λ a b. a.
 faults_tail x xs once = λ i j d less within. once (suc i) (suc j) d (omega (arith, less)) (omega (arith, within))
 
 -- faults of other starts are put behind
-once_behind : (xs ys : List Fault) → AllPairs {X = Fault} (λ a b. a.start ≢ b.start) xs → AllPairs {X = Fault} (λ a b. a.start ≢ b.start) ys → All {X = Fault} (λ y. fault_at xs y.start ≡ None) ys → AllPairs {X = Fault} (λ a b. a.start ≢ b.start) (xs ++ ys)
+pub once_behind : (xs ys : List Fault) → AllPairs {X = Fault} (λ a b. a.start ≢ b.start) xs → AllPairs {X = Fault} (λ a b. a.start ≢ b.start) ys → All {X = Fault} (λ y. fault_at xs y.start ≡ None) ys → AllPairs {X = Fault} (λ a b. a.start ≢ b.start) (xs ++ ys)
 once_behind [] ys once more apart = more
 once_behind (x ∷ xs) ys once more apart =
     AllPairs-cons {X = Fault} (λ a b. a.start ≢ b.start) x (xs ++ ys)
@@ -139,7 +139,7 @@ module _ (t : Tables) (token : TextToken) (index : ℕ) where
       by_act Error more = AllPairs-cons {X = Fault} (λ a b. a.start ≢ b.start) (record { start = pair.0; index = index; token = token; state = pair.1 }) (deaths t token index m) (start_deaths (λ q. pair.0 ≢ q) m later) more
 
 -- what holds of each start that has a target holds of all
-starts_all : (P : ℕ → Type 0) (m : StateMap) → ((q : ℕ) → IsSome (target m q) → P q) → All (λ (pair : ℕ × ℕ). P pair.0) m
+pub starts_all : (P : ℕ → Type 0) (m : StateMap) → ((q : ℕ) → IsSome (target m q) → P q) → All (λ (pair : ℕ × ℕ). P pair.0) m
 starts_all P [] each = All-nil (λ (pair : ℕ × ℕ). P pair.0)
 starts_all P (pair ∷ m) each = All-cons (λ (x : ℕ × ℕ). P x.0) pair m (each pair.0 (some_of (target_at pair m pair.0 refl))) (starts_all P m (λ q is. each q (more q is (cases_eq pair.0 q))))
   where
@@ -174,7 +174,7 @@ deaths_law t token index tops alive f g rising lives wide tight apart once same 
 
 -- ---- the look of a leaf
 
-once_of : {t : Tables} {first : TextToken} {lower : List Floor} {f : Floor} → AreStacked t first lower f → AllPairs {X = Fault} (λ a b. a.start ≢ b.start) f.faults
+pub once_of : {t : Tables} {first : TextToken} {lower : List Floor} {f : Floor} → AreStacked t first lower f → AllPairs {X = Fault} (λ a b. a.start ≢ b.start) f.faults
 once_of (on_ground unopened level) = level.once
 once_of (on_floor opened stacked parts is some less level) = level.once
 
