@@ -1,1 +1,2 @@
 pub mod CutLemmas
+mod FaultLemmas

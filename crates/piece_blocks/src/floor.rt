@@ -1,6 +1,7 @@
-ghost use Rattle.std.specs.Prelude.{◌≡◌};
+ghost use Rattle.std.specs.Prelude.{◌≡◌, ◌==◌, if◌then◌else◌, Some, None};
 ghost use Rattle.piece_theory.specs.Pieces.{fault_at};
 
+use crate::faults::Faults;
 use grammar_data::{RuleId, StateId, Token};
 use node_data::NodeRef;
 use state_sets::Arrow;
@@ -45,12 +46,25 @@ impl Model for StartFault {
     ghost inverse = { λ fault. record { token = fault.token; start = fault.start; index = fault.index; state = fault.state } };
 }
 
+impl StartFault {
+    /// The fault, where it is that of this start.
+    pub(crate) fn of(&self, start: StateId) -> Option<StartFault>
+        ensures { result ≡ (if self.now.start == start then Some self.now else None) }
+    {
+        if self.start == start {
+            Some(*self)
+        } else {
+            None
+        }
+    }
+}
+
 /// A floor of a piece: what opened it, which is nothing for the first one; the starts that are alive, each with the start of
 /// the floor below that it leads to, on the first floor with itself; and the starts that err.
 #[derive(Debug, Drop)]
 pub struct Floor {
     starts: Arrow,
-    faults: Vec<StartFault>,
+    faults: Faults,
     opened: Option<Opened>,
 }
 
@@ -59,13 +73,13 @@ impl Model for Floor {
 
     ghost Value = { FloorParts };
 
-    ghost view = { λ s. record { opened = s.opened; starts = s.starts; faults = s.faults.items } };
+    ghost view = { λ s. record { opened = s.opened; starts = s.starts; faults = s.faults } };
 }
 
 impl Floor {
     /// A floor.
-    pub fn new(opened: Option<Opened>, starts: Arrow, faults: Vec<StartFault>) -> Floor
-        ensures { result ≡ record { opened = opened; starts = starts; faults = faults.items } }
+    pub fn new(opened: Option<Opened>, starts: Arrow, faults: Faults) -> Floor
+        ensures { result ≡ record { opened = opened; starts = starts; faults = faults } }
     {
         Floor {
             starts,
@@ -92,32 +106,20 @@ impl Floor {
     pub fn fault(&self, start: StateId) -> Option<StartFault>
         ensures { result ≡ fault_at self.now.faults start }
     {
-        first_fault(&self.faults, start)
+        self.faults.find(start)
     }
 
     /// The parts of a floor: what opened it, its alive starts, and the starts that err.
-    pub fn into_parts(self) -> (Option<Opened>, Arrow, Vec<StartFault>)
-        ensures { self ≡ record { opened = result.0; starts = result.1; faults = result.2.items } }
+    pub fn into_parts(self) -> (Option<Opened>, Arrow, Faults)
+        ensures { self ≡ record { opened = result.0; starts = result.1; faults = result.2 } }
     {
         (self.opened, self.starts, self.faults)
     }
 
     /// The starts that err.
-    pub fn faults(&self) -> &[StartFault]
+    pub fn faults(&self) -> &Faults
         ensures { result.now ≡ self.now.faults }
     {
         &self.faults
     }
-}
-
-/// The first fault of a start.
-fn first_fault(faults: &[StartFault], start: StateId) -> Option<StartFault>
-    ensures { result ≡ fault_at faults.now start }
-{
-    for fault in faults {
-        if fault.start == start {
-            return Some(*fault);
-        }
-    }
-    None
 }

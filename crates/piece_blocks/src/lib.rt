@@ -4,9 +4,11 @@
 #![tactic(auto)]
 
 mod block;
+mod faults;
 mod floor;
 mod head;
 
 pub use block::Block;
+pub use faults::Faults;
 pub use floor::{Floor, Opened, StartFault};
 pub use head::{Extent, Head};

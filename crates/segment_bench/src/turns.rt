@@ -88,7 +88,7 @@ fn time_segments<R: CpuClock>(
     let spent = spent_since(rt, begun)?;
     let mut counts = Counts::none();
     for segment in &segments {
-        counts.count_segment(segment);
+        counts.count_segment(alloc, segment)?;
     }
     Ok((spent, counts))
 }

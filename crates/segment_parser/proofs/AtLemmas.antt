@@ -43,7 +43,7 @@ there_grows maps new grows ids there =
     All-weaker {X = ℕ} (λ id. id < length maps) (λ id. id < length new) (λ id inside. omega (arith, count, inside)) ids there
 
 pub last_grows : (maps new : List StateMap) (s : Leaf) → Grows maps new → s.starts < length maps → last_in new s ≡ last_in maps s
-last_grows maps new s grows inside = ap (λ m. record { opened = s.opened; starts = m; faults = s.faults.items }) (stays_at maps new grows s.starts inside)
+last_grows maps new s grows inside = ap (λ m. record { opened = s.opened; starts = m; faults = s.faults }) (stays_at maps new grows s.starts inside)
 
 pub piece_grows : (maps new : List StateMap) (s : Leaf) → Grows maps new → HasMaps maps s → piece_in new s ≡ piece_in maps s
 piece_grows maps new s grows has =

@@ -62,7 +62,7 @@ pub record HasOpened (t : Tables) (new : List StateMap) (token : TextToken) (aft
   pub shifts : HasMap new to (AreShiftStarts t token.id)
   pub starts : HasMap new after.starts (IsIdentityOf (map_at new to))
   pub own : HasMap new after.own (IsIdentityOf (map_at new after.starts))
-  pub faults : after.faults.items ≡ []
+  pub faults : after.faults ≡ []
   pub opened : after.opened ≡ None
   pub first : after.first ≡ token
   pub count : after.count ≡ 1

@@ -33,7 +33,7 @@ set_last (x ∷ low) id other (suc place) e = ap (λ l. x ∷ l) (set_last low i
 -- starts have erred
 pub record HasDied (t : Tables) (maps new : List StateMap) (token : TextToken) (alive : ℕ) (s after : Leaf) : Type 0 where
   pub grows : Grows maps new
-  pub faults : after.faults.items ≡ s.faults.items ++ deaths t token s.count (map_at maps (last_id s.ids.items))
+  pub faults : after.faults ≡ s.faults ++ deaths t token s.count (map_at maps (last_id s.ids.items))
   pub starts : HasMap new after.starts (IsRestricted (map_at maps s.starts) (map_at maps alive))
   pub own : HasMap new after.own (IsIdentityOf (map_at new after.starts))
   pub ids : after.ids.items ≡ slice_set s.ids.items (length s.ids.items - 1) alive
@@ -62,7 +62,7 @@ die_at t lawful lead store maps new s after tokens w rest token alive at is_aliv
     let looked = piece_in new after in
     let g = last_in new after in
     let counted : length w ≡ s.count = at.parsing.walked.has.counted in
-    let faults : after.faults.items ≡ s.faults.items ++ deaths t token (length w) at.last.states = died.faults ∙ (λ i. s.faults.items ++ deaths t token (sym counted i) (map i)) in
+    let faults : after.faults ≡ s.faults ++ deaths t token (length w) at.last.states = died.faults ∙ (λ i. s.faults ++ deaths t token (sym counted i) (map i)) in
     let floors : looked.floors ≡ s.block.floors ++ g ∷ [] = ap (λ b. b.floors ++ g ∷ []) died.block in
     let kid : fresh.kid ≡ at.last.kid = sym (ap (λ (h : Held). h.kid) last.last_is) in
     let living : AreAlive t token.id at.last.states (map_at maps alive) = subst (λ m. AreAlive t token.id m (map_at maps alive)) map is_alive.is in

@@ -204,7 +204,7 @@ die_open t lawful lead store maps new s after nodes front w token alive is is_al
     let looked = piece_in new after in
     let g = last_in new after in
     let counted : length w ≡ s.count = is.walked.has.counted in
-    let faults : after.faults.items ≡ s.faults.items ++ deaths t token (length w) is.last.states = died.faults ∙ (λ i. s.faults.items ++ deaths t token (sym counted i) (map i)) in
+    let faults : after.faults ≡ s.faults ++ deaths t token (length w) is.last.states = died.faults ∙ (λ i. s.faults ++ deaths t token (sym counted i) (map i)) in
     let floors : looked.floors ≡ s.block.floors ++ g ∷ [] = ap (λ b. b.floors ++ g ∷ []) died.block in
     let kid : fresh.kid ≡ is.last.kid = sym (ap (λ (h : Held). h.kid) last.last_is) in
     let living : AreAlive t token.id is.last.states (map_at maps alive) = subst (λ m. AreAlive t token.id m (map_at maps alive)) map is_alive.is in

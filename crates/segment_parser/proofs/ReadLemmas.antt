@@ -42,7 +42,7 @@ looks_next {t} {store} {maps} {s} tokens index token is inside between =
 abbrev pub Opens1 : Tables → List StateMap → TextToken → Leaf → Type 0
 Opens1 t new token after = (to : ℕ) × (after.ids.items ≡ to ∷ []) × HasMap new to (AreShiftStarts t token.id) × HasMap new after.starts (IsIdentityOf (map_at new to))
 
-pub has_opened_as : (t t1 : Tables) → t1 ≡ t → (new : List StateMap) (token : TextToken) (after : Leaf) → after.block.floors ≡ [] → after.block.kids ≡ TokenKid token ∷ [] → Opens1 t1 new token after → HasMap new after.own (IsIdentityOf (map_at new after.starts)) → after.faults.items ≡ [] → after.opened ≡ None → after.first ≡ token → after.count ≡ 1 → after.stale ≡ 0 → HasOpened t new token after
+pub has_opened_as : (t t1 : Tables) → t1 ≡ t → (new : List StateMap) (token : TextToken) (after : Leaf) → after.block.floors ≡ [] → after.block.kids ≡ TokenKid token ∷ [] → Opens1 t1 new token after → HasMap new after.own (IsIdentityOf (map_at new after.starts)) → after.faults ≡ [] → after.opened ≡ None → after.first ≡ token → after.count ≡ 1 → after.stale ≡ 0 → HasOpened t new token after
 has_opened_as t t1 same new token after floors kids ids own faults opened first count stale = record {
   floors = floors;
   kids = kids;

@@ -160,7 +160,7 @@ left_is t here r n m right rule same left = same_left right (sym (ap (λ o. opti
 
 -- a reduction that takes all entries and more
 pub more_raised : (t : Tables) (store new : Store) (maps mid final : List StateMap) (s s1 after : Leaf) (r n hidden : ℕ) (right : List Sym) (m : Ref) (to : ℕ) → HasMaps maps s
-    → s1.block.floors ≡ s.block.floors ++ last_in maps s ∷ [] → s1.block.closed ≡ s.block.closed → s1.faults.items ≡ [] → s1.opened ≡ Some (record { rule = r; hidden = hidden; node = m }) → s1.first ≡ s.first → s1.count ≡ s.count → s1.block.kids ≡ [] → s1.ids.items ≡ [] → s1.stale ≡ 0
+    → s1.block.floors ≡ s.block.floors ++ last_in maps s ∷ [] → s1.block.closed ≡ s.block.closed → s1.faults ≡ [] → s1.opened ≡ Some (record { rule = r; hidden = hidden; node = m }) → s1.first ≡ s.first → s1.count ≡ s.count → s1.block.kids ≡ [] → s1.ids.items ≡ [] → s1.stale ≡ 0
     → StoresNode store new r (replicate hidden Hidden ++ s.block.kids) m → Grows maps mid → HasMap mid s1.starts (IsBack t (take hidden right) (map_at maps s.starts)) → HasMap mid s1.own (IsIdentityOf (map_at mid s1.starts))
     → SameButEntries s1 after → after.stale ≡ s1.stale → after.count ≡ s1.count → after.block.kids ≡ s1.block.kids ++ NodeKid m ∷ [] → after.ids.items ≡ s1.ids.items ++ to ∷ [] → Grows mid final → HasMap final to (IsThenSymbol t (Name n) (map_at mid s1.own))
     → HasRaised t store new final s after r n hidden right m

@@ -102,7 +102,7 @@ few_shifted {tokens = tokens} {index = index} {token = token} looking few =
     omega (arith, count, few)
 
 pub died_step : (t t1 : Tables) → t1 ≡ t → IsLawful t → LeadFromStates t → (store : Store) (maps mid new : List StateMap) (s after : Leaf) (tokens : List TextToken) (index : ℕ) (token : TextToken) (alive : ℕ) → Grows maps mid → HasMap mid alive (AreAlive t token.id (map_at maps (last_id s.ids.items))) → Grows mid new
-    → after.faults.items ≡ s.faults.items ++ deaths t1 token s.count (map_at mid (last_id s.ids.items)) → HasMap new after.starts (IsRestricted (map_at mid s.starts) (map_at mid alive)) → HasMap new after.own (IsIdentityOf (map_at new after.starts)) → after.ids.items ≡ slice_set s.ids.items (length s.ids.items - 1) alive → after.stale ≡ length s.ids.items - 1 → after.block ≡ s.block → after.opened ≡ s.opened → after.first ≡ s.first → after.count ≡ s.count
+    → (AreAlive t1 token.id (map_at mid (last_id s.ids.items)) (map_at mid alive) → after.faults ≡ s.faults ++ deaths t1 token s.count (map_at mid (last_id s.ids.items))) → HasMap new after.starts (IsRestricted (map_at mid s.starts) (map_at mid alive)) → HasMap new after.own (IsIdentityOf (map_at new after.starts)) → after.ids.items ≡ slice_set s.ids.items (length s.ids.items - 1) alive → after.stale ≡ length s.ids.items - 1 → after.block ≡ s.block → after.opened ≡ s.opened → after.first ≡ s.first → after.count ≡ s.count
     → IsLooking t store maps s tokens index token → IsLooking t store new after tokens index token
 died_step t t1 same lawful lead store maps mid new s after tokens index token alive grows is_alive grows2 faults starts own ids stale block opened first count looking =
     let here = looking_grows mid grows looking in
@@ -110,7 +110,7 @@ died_step t t1 same lawful lead store maps mid new s after tokens index token al
     let living : HasMap mid alive (AreAlive t token.id (map_at mid (last_id s.ids.items))) = subst (λ m. HasMap mid alive (AreAlive t token.id m)) (sym top) is_alive in
     died_looking t lawful lead store mid new s after tokens index token alive here living (record {
       grows = grows2;
-      faults = faults ∙ ap (λ (x : Tables). s.faults.items ++ deaths x token s.count (map_at mid (last_id s.ids.items))) same;
+      faults = faults (subst (λ (x : Tables). AreAlive x token.id (map_at mid (last_id s.ids.items)) (map_at mid alive)) (sym same) living.is) ∙ ap (λ (x : Tables). s.faults ++ deaths x token s.count (map_at mid (last_id s.ids.items))) same;
       starts = starts;
       own = own;
       ids = ids;

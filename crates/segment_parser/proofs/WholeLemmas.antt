@@ -108,7 +108,7 @@ takes_all_at t lawful store new maps s after tokens w rest token r n right m at 
 pub record HasRaised (t : Tables) (store new : Store) (maps : List StateMap) (s after : Leaf) (r n hidden : ℕ) (right : List Sym) (m : Ref) : Type 0 where
   pub floors : after.block.floors ≡ s.block.floors ++ last_in maps s ∷ []
   pub closed : after.block.closed ≡ s.block.closed
-  pub faults : after.faults.items ≡ []
+  pub faults : after.faults ≡ []
   pub opened : after.opened ≡ Some (record { rule = r; hidden = hidden; node = m })
   pub back : HasMap maps after.starts (IsBack t (take hidden right) (map_at maps s.starts))
   pub own : HasMap maps after.own (IsIdentityOf (map_at maps after.starts))

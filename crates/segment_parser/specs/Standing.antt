@@ -15,7 +15,7 @@ use Rattle.segment_parser.specs.declared.leaf.Leaf.{Leaf}
 use Rattle.segment_parser.specs.Working.{last_of, piece_of, AreThere}
 
 abbrev pub last_in : List StateMap → Leaf → Floor
-last_in maps s = last_of maps s.opened s.starts s.faults.items
+last_in maps s = last_of maps s.opened s.starts s.faults
 
 abbrev pub piece_in : List StateMap → Leaf → Piece
 piece_in maps s = piece_of maps s.first s.count s.block.floors (last_in maps s) s.block.kids s.ids.items
@@ -31,7 +31,7 @@ pub record HasMaps (maps : List StateMap) (s : Leaf) : Type 0 where
 pub record SameButEntries (s after : Leaf) : Type 0 where
   pub floors : after.block.floors ≡ s.block.floors
   pub closed : after.block.closed ≡ s.block.closed
-  pub faults : after.faults.items ≡ s.faults.items
+  pub faults : after.faults ≡ s.faults
   pub opened : after.opened ≡ s.opened
   pub starts : after.starts ≡ s.starts
   pub own : after.own ≡ s.own

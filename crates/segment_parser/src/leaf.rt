@@ -16,12 +16,12 @@ ghost use Rattle.arrow_table.specs.Looks.{Grows, HasMap, map_at};
 ghost use Rattle.segment_parser.specs.Working.{AreThere, IsFreshAt, last_id, last_of};
 ghost use Rattle.segment_parser.specs.Standing.{SameButEntries};
 ghost use Rattle.look_laws.specs.Deaths.{deaths};
+ghost use Rattle.piece_blocks.specs.Faults.{lost};
 
-use crate::deaths::add_deaths;
 use arrow_table::{ArrowId, Arrows, Opening};
 use lr_base::{NameId, NoMemory, RuleId, Sym, Token};
 use node_store::{Kid, NodeRef, PackedKid, Store};
-use piece_blocks::{Block, Floor, Opened, StartFault};
+use piece_blocks::{Block, Faults, Floor, Opened};
 use std::alloc::Global;
 
 /// The piece that is open, and the pieces before it. `ids` has the number of the map over each entry, whose kids stand in the
@@ -31,7 +31,7 @@ use std::alloc::Global;
 pub struct Leaf {
     pub block: Block,
     pub ids: Vec<ArrowId>,
-    pub faults: Vec<StartFault>,
+    pub faults: Faults,
     pub opened: Option<Opened>,
     pub starts: ArrowId,
     pub own: ArrowId,
@@ -77,7 +77,7 @@ impl Leaf {
             × HasMap arrows.new.1 leaf.starts (IsIdentityOf (map_at arrows.new.1 after))) }
         ensures own { IfOk result (λ leaf. HasMap arrows.new.1 leaf.own (IsIdentityOf (map_at arrows.new.1 leaf.starts))) }
         ensures first { IfOk result (λ leaf. (leaf.first ≡ token.now) × (leaf.count ≡ 1) × (leaf.stale ≡ 0)
-            × (leaf.opened ≡ None) × (leaf.faults.items ≡ [])) }
+            × (leaf.opened ≡ None) × (leaf.faults ≡ [])) }
     {
         let Opening { starts, after } = arrows.open(alloc, token.id)?;
         let own = arrows.identity(alloc, starts)?;
@@ -88,7 +88,7 @@ impl Leaf {
         Ok(Leaf {
             block,
             ids,
-            faults: Vec::new(alloc),
+            faults: Faults::new(alloc),
             opened: None,
             starts,
             own,
@@ -118,7 +118,7 @@ impl Leaf {
         ensures own { OnOk result (HasMap arrows.new.1 self.new.own (IsIdentityOf (map_at arrows.new.1 self.new.starts))) }
         ensures opened { OnOk result (self.new.opened ≡ None) }
         ensures first { OnOk result ((self.new.first ≡ token.now) × (self.new.count ≡ 1) × (self.new.stale ≡ 0)) }
-        ensures faults { OnOk result (self.new.faults.items ≡ []) }
+        ensures faults { OnOk result (self.new.faults ≡ []) }
     {
         let kid = PackedKid::of(Kid::Token(*token));
         let Opening { starts, after } = arrows.open(alloc, token.id)?;
@@ -218,8 +218,8 @@ impl Leaf {
     pub fn put_floor(&mut self, alloc: Global, arrows: &Arrows<'_>) -> Result<(), NoMemory>
         requires { self.old.starts < length arrows.now.1 }
         ensures floors { OnOk result (self.new.block.floors ≡ self.old.block.floors
-            ++ last_of arrows.now.1 self.old.opened self.old.starts self.old.faults.items ∷ []) }
-        ensures faults { OnOk result (self.new.faults.items ≡ []) }
+            ++ last_of arrows.now.1 self.old.opened self.old.starts self.old.faults ∷ []) }
+        ensures faults { OnOk result (self.new.faults ≡ []) }
         ensures kids { OnOk result (self.new.block.kids ≡ self.old.block.kids) }
         ensures closed { OnOk result (self.new.block.closed ≡ self.old.block.closed) }
         ensures ids { OnOk result (self.new.ids.items ≡ self.old.ids.items) }
@@ -228,7 +228,8 @@ impl Leaf {
             × (self.new.count ≡ self.old.count)) }
     {
         let starts = arrows.copy(self.starts)?;
-        let faults = std::mem::replace(&mut self.faults, Vec::new(alloc));
+        let mut faults = std::mem::replace(&mut self.faults, Faults::new(alloc));
+        faults.shrink();
         let opened = self.opened;
         self.block.push_floor(Floor::new(opened, starts, faults))?;
         Ok(())
@@ -242,7 +243,7 @@ impl Leaf {
               first = self.old.first;
               count = self.old.count;
               floors = self.old.block.floors
-                  ++ last_of arrows.now.1 self.old.opened self.old.starts self.old.faults.items ∷ [];
+                  ++ last_of arrows.now.1 self.old.opened self.old.starts self.old.faults ∷ [];
               kids = self.old.block.kids;
             } ∷ []) }
         ensures floors { OnOk result (self.new.block.floors ≡ []) }
@@ -273,14 +274,14 @@ impl Leaf {
             (replicate hidden Hidden ++ self.old.block.kids) node) }
         ensures chunks { OnOk result (numbers_in store.new ≡ numbers_in store.old) }
         ensures floors { OnOk result (self.new.block.floors ≡ self.old.block.floors
-            ++ last_of arrows.old.1 self.old.opened self.old.starts self.old.faults.items ∷ []) }
+            ++ last_of arrows.old.1 self.old.opened self.old.starts self.old.faults ∷ []) }
         ensures opened { IfOk result (λ node. self.new.opened
             ≡ Some (record { rule = rule; hidden = hidden; node = node })) }
         ensures back { OnOk result ((n : ℕ) (right : List Symbol) → IsRule arrows.old.0.rules rule n right
             → HasMap arrows.new.1 self.new.starts (IsBack arrows.old.0 (take hidden right) (map_at arrows.old.1 self.old.starts))) }
         ensures own { OnOk result (HasMap arrows.new.1 self.new.own (IsIdentityOf (map_at arrows.new.1 self.new.starts))) }
         ensures entries { OnOk result ((self.new.block.kids ≡ []) × (self.new.ids.items ≡ []) × (self.new.stale ≡ 0)) }
-        ensures faults { OnOk result (self.new.faults.items ≡ []) }
+        ensures faults { OnOk result (self.new.faults ≡ []) }
         ensures closed { OnOk result (self.new.block.closed ≡ self.old.block.closed) }
         ensures same { OnOk result ((self.new.first ≡ self.old.first) × (self.new.count ≡ self.old.count)) }
     {
@@ -310,7 +311,11 @@ impl Leaf {
         requires alive { alive < length arrows.old.1 }
         ensures tables { arrows.new.0 ≡ arrows.old.0 }
         ensures grows { Grows arrows.old.1 arrows.new.1 }
-        ensures faults { OnOk result (self.new.faults.items ≡ self.old.faults.items
+        ensures lost { OnOk result (self.new.faults ≡ self.old.faults
+            ++ lost (map_at arrows.old.1 (last_id self.old.ids.items)) (map_at arrows.old.1 alive) token.now self.old.count) }
+        ensures faults { OnOk result (
+            AreAlive arrows.old.0 token.now.id (map_at arrows.old.1 (last_id self.old.ids.items)) (map_at arrows.old.1 alive)
+            → self.new.faults ≡ self.old.faults
             ++ deaths arrows.old.0 token.now self.old.count (map_at arrows.old.1 (last_id self.old.ids.items))) }
         ensures starts { OnOk result (HasMap arrows.new.1 self.new.starts
             (IsRestricted (map_at arrows.old.1 self.old.starts) (map_at arrows.old.1 alive))) }
@@ -329,13 +334,10 @@ impl Leaf {
     {
         let last = self.ids.len() - 1;
         let top = self.top();
-        add_deaths(
-            &mut self.faults,
-            arrows.tables(),
-            arrows.map(top),
-            token,
-            self.count,
-        )?;
+        let before = arrows.map(top);
+        before.holds();
+        self.faults
+            .push_look(before, arrows.map(alive), *token, self.count)?;
         let starts = arrows.restrict(alloc, self.starts, alive)?;
         let own = arrows.identity(alloc, starts)?;
         self.ids[last] = alive;

@@ -1,7 +1,6 @@
 //! The pieces of a segment, parsed from left to right for all left contexts at once.
 #![tactic(auto)]
 
-mod deaths;
 mod leaf;
 mod parsing;
 mod reducing;

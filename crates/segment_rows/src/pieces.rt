@@ -273,64 +273,83 @@ fn are_faults_as_stated(
 }
 
 /// Whether a floor is as stated.
-fn is_floor_as_stated(floor: &Floor, stated: &StatedFloor, letters: &[u8], bad: u32) -> bool {
-    is_opened_as_stated(floor.opened(), stated.opened)
-        && match stated.starts {
-            Some(starts) => has_starts(floor.starts(), starts),
-            None => true,
-        }
-        && match stated.faults {
-            Some(faults) => are_faults_as_stated(floor.faults(), faults, letters, bad),
-            None => true,
-        }
+fn is_floor_as_stated(
+    alloc: Global,
+    floor: &Floor,
+    stated: &StatedFloor,
+    letters: &[u8],
+    bad: u32,
+) -> Result<bool, NoMemory> {
+    let faults = floor.faults().list(alloc)?;
+    Ok(
+        is_opened_as_stated(floor.opened(), stated.opened)
+            && match stated.starts {
+                Some(starts) => has_starts(floor.starts(), starts),
+                None => true,
+            }
+            && match stated.faults {
+                Some(stated) => are_faults_as_stated(&faults, stated, letters, bad),
+                None => true,
+            },
+    )
 }
 
 /// Whether floors are as stated.
 fn are_floors_as_stated(
+    alloc: Global,
     floors: &[Floor],
     stated: &[StatedFloor],
     letters: &[u8],
     bad: u32,
-) -> bool {
+) -> Result<bool, NoMemory> {
     if floors.len() != stated.len() {
-        return false;
+        return Ok(false);
     }
     for (floor, as_stated) in floors.iter().zip(stated) {
-        if !is_floor_as_stated(floor, as_stated, letters, bad) {
-            return false;
+        if !is_floor_as_stated(alloc, floor, as_stated, letters, bad)? {
+            return Ok(false);
         }
     }
-    true
+    Ok(true)
 }
 
 /// Whether a closed piece is as stated.
 fn is_piece_as_stated(
+    alloc: Global,
     block: &Block,
     index: usize,
     stated: &StatedPiece,
     letters: &[u8],
     bad: u32,
-) -> bool
+) -> Result<bool, NoMemory>
     requires { index < length block.now.closed }
 {
-    block.first(index).id.0 == number_of(letters, stated.first, bad)
-        && block.tokens(index) == stated.tokens
-        && block.kids(index).len() == stated.entries
-        && are_floors_as_stated(block.floors(index), stated.floors, letters, bad)
+    let floors = are_floors_as_stated(alloc, block.floors(index), stated.floors, letters, bad)?;
+    Ok(
+        floors
+            && block.first(index).id.0 == number_of(letters, stated.first, bad)
+            && block.tokens(index) == stated.tokens
+            && block.kids(index).len() == stated.entries,
+    )
 }
 
 /// Whether a segment is parsed into what is stated.
-fn is_parsed_as_stated(segment: &Segment, row: &PieceRow, bad: u32) -> bool {
+fn is_parsed_as_stated(
+    alloc: Global,
+    segment: &Segment,
+    row: &PieceRow,
+    bad: u32,
+) -> Result<bool, NoMemory> {
     let block = &segment.block;
     if segment.store.node_count() != row.nodes || block.count() != row.pieces.len() {
-        return false;
+        return Ok(false);
     }
     for index in 0..block.count() {
-        if !is_piece_as_stated(block, index, &row.pieces[index], row.letters, bad) {
-            return false;
+        if !is_piece_as_stated(alloc, block, index, &row.pieces[index], row.letters, bad)? {
+            return Ok(false);
         }
     }
-    true
+    Ok(true)
 }
 
 /// Whether the segment of a row is parsed into what the row states.
@@ -339,7 +358,8 @@ fn is_as_stated(alloc: Global, row: &PieceRow) -> Result<bool, Fail> {
     let built = build_grammar(alloc, sheet.grammar())?;
     let tokens = tokens_of(alloc, &built.tables, row.letters, row.text)?;
     let segment = parse_tokens(alloc, &sheet, &built, &tokens)?;
-    Ok(is_parsed_as_stated(&segment, row, built.tables.end().0 + 1))
+    let bad = built.tables.end().0 + 1;
+    Ok(is_parsed_as_stated(alloc, &segment, row, bad)?)
 }
 
 #[test]

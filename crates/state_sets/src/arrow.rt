@@ -158,10 +158,12 @@ impl Arrow {
             ≡ pairs_of building.starts.items building.classes.items building.targets.keys) }
     {
         let Building {
-            starts,
-            classes,
+            mut starts,
+            mut classes,
             targets: numbers,
         } = building;
+        starts.shrink_to_fit();
+        classes.shrink_to_fit();
         let targets = states_of(alloc, numbers.as_slice())?;
         let starts = Arc::new(alloc, starts)?;
         Arrow::of_parts(

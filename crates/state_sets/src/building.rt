@@ -50,6 +50,19 @@ impl Building {
         }
     }
 
+    /// No pair yet, with room for so many.
+    pub fn with_room(alloc: Global, count: usize) -> Result<Building, NoMemory>
+        ensures classed { IfOk result (λ b. AreClassed b.starts.items b.classes.items b.targets.keys) }
+        ensures empty { IfOk result (λ b. pairs_of b.starts.items b.classes.items b.targets.keys ≡ []) }
+        ensures starts { IfOk result (λ b. b.starts.items ≡ []) }
+    {
+        Ok(Building {
+            starts: Vec::with_capacity(alloc, count)?,
+            classes: Vec::with_capacity(alloc, count)?,
+            targets: IndexSet::new(alloc),
+        })
+    }
+
     /// Puts a pair last, and gives the class of its target; `known` is that class where it is known.
     pub fn put(
         &mut self,

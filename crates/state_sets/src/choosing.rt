@@ -16,7 +16,7 @@ pub fn to_themselves(alloc: Global, arrow: &Arrow) -> Result<Building, NoMemory>
     ensures few { IfOk result (λ b. length b.starts.items ≤ MOST_STATES) }
 {
     arrow.holds();
-    let mut building = Building::new(alloc);
+    let mut building = Building::with_room(alloc, arrow.len() as usize)?;
     for i in 0..arrow.len() {
         let (start, _) = arrow.pair(i);
         building.put(start, start, None)?;
@@ -32,7 +32,7 @@ pub fn kept(alloc: Global, arrow: &Arrow, keep: &Arrow) -> Result<Building, NoMe
     ensures few { IfOk result (λ b. length b.starts.items ≤ MOST_STATES) }
 {
     arrow.holds();
-    let mut building = Building::new(alloc);
+    let mut building = Building::with_room(alloc, arrow.len() as usize)?;
     for i in 0..arrow.len() {
         let (start, target) = arrow.pair(i);
         if keep.target(start).is_none() {

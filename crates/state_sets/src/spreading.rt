@@ -34,7 +34,7 @@ pub fn spread(
         ≡ spread_pairs starts.now classes.now images.now) }
     ensures few { IfOk result (λ b. length b.starts.items ≤ length starts.now) }
 {
-    let mut building = Building::new(alloc);
+    let mut building = Building::with_room(alloc, starts.len())?;
     let mut known = unknown(alloc, images.len())?;
     for i in 0..starts.len() {
         let class = classes[i] as usize;

@@ -13,8 +13,8 @@ never numbers k j is none =
 
 pub loop-i-init : goal.loop-i-init
 loop-i-init c = record {
-  classed = c.new-building.ensures.classed;
-  pairs = c.new-building.ensures.empty;
+  classed = c.in_ok-building.ensures.classed;
+  pairs = c.in_ok-building.ensures.empty;
   few = search rules;
   size = search rules;
   right = λ k j is. absurd (never c.in_ok-known.known.items k j is c.in_ok-known.ensures.none);
