@@ -2,3 +2,4 @@ pub mod EntryLemmas
 pub mod MarkingLemmas
 pub mod PendingLemmas
 pub mod WayLemmas
+pub mod PlaceLemmas

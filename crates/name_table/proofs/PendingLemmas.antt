@@ -1,8 +1,7 @@
 -- What is pending: the parts of a node, in its place.
-use Rattle.std.proofs.Common.{◌≡◌, ℕ, suc, ◌+◌, ◌-◌, ◌<◌, List, [], ◌∷◌, ◌++◌, length, drop, slice_get, Bool, true, false, refl, sym, ap, subst, ◌∙◌, arith}
+use Rattle.std.proofs.Common.{◌≡◌, ℕ, suc, ◌+◌, List, [], ◌∷◌, ◌++◌, length, Bool, true, false, refl, sym, ap, subst, ◌∙◌, arith}
 use Rattle.std.specs.Prelude.{if◌then◌else◌, All, Some}
-use Rattle.std.proofs.lemmas.Option.{slice_get_within, get_or_from_slice_get}
-use Rattle.std.proofs.lemmas.List.{drop_more, append-nil, append_assoc, length-append, same_from_push, get_or_append_left, get_or-append-add}
+use Rattle.std.proofs.lemmas.List.{append-nil, append_assoc, length-append, same_from_push, get_or_append_left, get_or-append-add}
 use Rattle.std.proofs.lemmas.List.Elements.{All-head}
 use Rattle.grammar_data.specs.declared.rule.Sym.{Sym}
 use Rattle.grammar_data.specs.declared.rule.Sym.TheVariants.{Name}
@@ -17,22 +16,9 @@ use Rattle.finished_theory.proofs.FinishedLemmas.{nothing_supplied}
 use Rattle.sheet_data.specs.Sheet.{Sheet}
 use Rattle.translation_theory.specs.TokenTexts.{IsInText}
 use Rattle.translation_theory.specs.Marks.{is_declared, marked_leaves, marked_among}
-use Rattle.name_table.specs.Markings.{AreSettled, declared_by, is_marked_part, is_marking}
+use Rattle.name_table.specs.Markings.{AreSettled, declared_by, is_marking}
 use Rattle.name_table.proofs.MarkingLemmas.{none_of_name}
 use Rattle.name_table.specs.Pending.{pending_kids, ArePending, none_pending, leaf_pending, node_pending}
-
-drop_here : {X : Type 0} (xs : List X) (n : ℕ) (x : X) → slice_get xs n ≡ Some x → drop n xs ≡ x ∷ drop (n + 1) xs
-drop_here xs n x at = drop_more xs n x (slice_get_within xs n x at) ∙ ap (λ y. y ∷ drop (n + 1) xs) (get_or_from_slice_get xs n x x at)
-
--- the kids from a place on are those behind it, and then that one, where it may have marked leaves
-pub pending_from : (declared : List ℕ) (marking : List Bool) (right : List Sym) (kids : List Kid) (left : ℕ) (x : Sym) (kid : Kid) → 0 < left → slice_get right (left - 1) ≡ Some x → slice_get kids (left - 1) ≡ Some kid → pending_kids declared marking (left - 1 + 1) (drop (left - 1) right) (drop (left - 1) kids) ≡ pending_kids declared marking (left + 1) (drop left right) (drop left kids) ++ (if is_marked_part declared marking left x then kid ∷ [] else [])
-pending_from declared marking right kids left x kid some at_x at_kid =
-    let same : left - 1 + 1 ≡ left = omega (arith, some) in
-    let next : suc left ≡ left + 1 = omega arith in
-    ap (λ l. pending_kids declared marking (left - 1 + 1) l (drop (left - 1) kids)) (drop_here right (left - 1) x at_x)
-    ∙ ap (λ l. pending_kids declared marking (left - 1 + 1) (x ∷ drop (left - 1 + 1) right) l) (drop_here kids (left - 1) kid at_kid)
-    ∙ ap (λ n. pending_kids declared marking (suc n) (drop n right) (drop n kids) ++ (if is_marked_part declared marking n x then kid ∷ [] else [])) same
-    ∙ ap (λ n. pending_kids declared marking n (drop left right) (drop left kids) ++ (if is_marked_part declared marking left x then kid ∷ [] else [])) next
 
 all_left : {X : Type 0} (P : X → Type 0) (xs ys : List X) → All P (xs ++ ys) → All P xs
 all_left P xs ys all k d inside =

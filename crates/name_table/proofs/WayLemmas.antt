@@ -5,7 +5,6 @@ use Rattle.std.specs.Option.{option_map}
 use Rattle.std.proofs.lemmas.List.{append-nil, append_assoc, length-append, length_push}
 use Rattle.std.proofs.lemmas.List.Sums.{get_or-le-sum_by}
 use Rattle.std.proofs.lemmas.Option.{same_Some, slice_get_within}
-use Rattle.grammar_data.specs.declared.rule.Sym.{Sym}
 use Rattle.grammar_data.specs.declared.token.Token.{Token as TextToken}
 use Rattle.grammar_data.specs.Grammar.{Rule}
 use Rattle.grammar_theory.specs.Trees.{Tree, Forest, yield, yields, Leaf, Node as Inner, NoTree, FirstTree}
@@ -21,7 +20,7 @@ use Rattle.translation_theory.proofs.NotedLemmas.{one_noted, counted}
 use Rattle.name_table.specs.Pending.{pending_kids, ArePending, none_pending, node_pending, IsUnderWay}
 use Rattle.name_table.proofs.EntryLemmas.{few_noted}
 use Rattle.name_table.proofs.PendingLemmas.{next_leaf_of, IsNextNode, next_node_of, not_hidden, nothing_pending, kids_behind, as_many}
-use Rattle.name_table.specs.Markings.{AreSettled, declared_by}
+use Rattle.name_table.specs.Markings.{AreSettled, declared_by, right_of}
 
 -- ---- how many names there are, and how many leaves each has
 
@@ -120,28 +119,27 @@ module _ (sheet : Sheet) (text : List ℕ) (store : Store) (all : List TextToken
       subst (λ r. r < length sheet.grammar.rules) (rule_is rule (store node) next.at is) (slice_get_within sheet.grammar.rules next.rule (next.name, next.right) next.ruled.found)
 
   -- the right side of the node's rule
-  right_is : (node : Ref) (e : part ≡ Node node) (rule : ℕ) (right : List Sym) → option_map (λ n. n.0) (store node) ≡ Some rule → option_map (λ (r : Rule). r.1) (slice_get sheet.grammar.rules rule) ≡ Some right → (node_next node e).right ≡ right
-  right_is node e rule right rule_at right_at =
+  right_is : (node : Ref) (e : part ≡ Node node) (rule : ℕ) → option_map (λ n. n.0) (store node) ≡ Some rule → (node_next node e).right ≡ right_of sheet rule
+  right_is node e rule rule_at =
       let next = node_next node e in
       let same : next.rule ≡ rule = rule_is rule (store node) next.at rule_at in
       let found : slice_get sheet.grammar.rules rule ≡ Some (next.name, next.right) = subst (λ r. slice_get sheet.grammar.rules r ≡ Some (next.name, next.right)) same next.ruled.found in
-      same_Some next.right right (sym (ap (option_map (λ (r : Rule). r.1)) found) ∙ right_at)
+      sym (ap (λ (one : Option Rule). unwrap_or (option_map (λ (r : Rule). r.1) one) []) found)
 
-  pub kid_each : (node : Ref) (rule : ℕ) (right : List Sym) (kids : List Kid) → part ≡ Node node → option_map (λ n. n.0) (store node) ≡ Some rule → option_map (λ (r : Rule). r.1) (slice_get sheet.grammar.rules rule) ≡ Some right → option_map (λ n. n.1) (store node) ≡ Some kids → length kids ≡ length right
-  kid_each node rule right kids e rule_at right_at kids_at =
+  pub kid_each : (node : Ref) (rule : ℕ) (kids : List Kid) → part ≡ Node node → option_map (λ n. n.0) (store node) ≡ Some rule → option_map (λ n. n.1) (store node) ≡ Some kids → length kids ≡ length (right_of sheet rule)
+  kid_each node rule kids e rule_at kids_at =
       let next = node_next node e in
       let same : next.kids ≡ kids = kids_are kids (store node) next.at kids_at in
-      ap length (sym same) ∙ as_many next.shows next.trees_are ∙ ap length (right_is node e rule right rule_at right_at)
+      ap length (sym same) ∙ as_many next.shows next.trees_are ∙ ap length (right_is node e rule rule_at)
 
-  pub node_taken : (marking : List Bool) → AreSettled sheet marking → (node : Ref) (rule : ℕ) (right : List Sym) (kids : List Kid) (declared : List ℕ) (now : List Kid) → part ≡ Node node → option_map (λ n. n.0) (store node) ≡ Some rule → option_map (λ (r : Rule). r.1) (slice_get sheet.grammar.rules rule) ≡ Some right → option_map (λ n. n.1) (store node) ≡ Some kids → slice_get sheet.declares rule ≡ Some declared → now ≡ parts ++ pending_kids declared marking 1 right kids → IsUnderWay sheet text store all now rows
-  node_taken marking settled node rule right kids declared now e rule_at right_at kids_at declares is =
+  pub node_taken : (marking : List Bool) → AreSettled sheet marking → (node : Ref) (rule : ℕ) (kids now : List Kid) → part ≡ Node node → option_map (λ n. n.0) (store node) ≡ Some rule → option_map (λ n. n.1) (store node) ≡ Some kids → now ≡ parts ++ pending_kids (declared_by sheet rule) marking 1 (right_of sheet rule) kids → IsUnderWay sheet text store all now rows
+  node_taken marking settled node rule kids now e rule_at kids_at is =
       let next = node_next node e in
       let same_rule : next.rule ≡ rule = rule_is rule (store node) next.at rule_at in
       let same_kids : next.kids ≡ kids = kids_are kids (store node) next.at kids_at in
-      let marks : declared_by sheet next.rule ≡ declared = ap (declared_by sheet) same_rule ∙ ap (λ o. unwrap_or o []) declares in
       let behind = kids_behind sheet text store marking settled parts next.more next.pending next.rule 1 next.shows next.trees_are next.inside in
       let parts_are : parts ++ pending_kids (declared_by sheet next.rule) marking 1 next.right next.kids ≡ now =
-      ap (λ d. parts ++ pending_kids d marking 1 next.right next.kids) marks ∙ ap (λ x. parts ++ pending_kids declared marking 1 x next.kids) (right_is node e rule right rule_at right_at) ∙ ap (λ k. parts ++ pending_kids declared marking 1 right k) same_kids ∙ sym is in
+      ap (λ r. parts ++ pending_kids (declared_by sheet r) marking 1 next.right next.kids) same_rule ∙ ap (λ x. parts ++ pending_kids (declared_by sheet rule) marking 1 x next.kids) (right_is node e rule rule_at) ∙ ap (λ k. parts ++ pending_kids (declared_by sheet rule) marking 1 (right_of sheet rule) k) same_kids ∙ sym is in
       record {
         done = way.done;
         more = marked_among sheet next.rule 1 next.trees ++ next.more;

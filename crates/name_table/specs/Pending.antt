@@ -1,10 +1,10 @@
 -- Parts of trees that are still to be looked at for marked leaves, the next one last.
-use Rattle.std.specs.Prelude.{◌≡◌, ℕ, suc, Bool, if◌then◌else◌, List, [], ◌∷◌, ◌++◌, All}
+use Rattle.std.specs.Prelude.{◌≡◌, ℕ, suc, Bool, if◌then◌else◌, List, [], ◌∷◌, ◌++◌, All, map, slice_index_or}
 use Rattle.grammar_data.specs.declared.rule.Sym.{Sym}
 use Rattle.grammar_data.specs.declared.token.Token.{Token as TextToken}
 use Rattle.grammar_theory.specs.Trees.{Tree, IsTree, yield}
 use Rattle.node_data.specs.declared.kid.Kid.{Kid}
-use Rattle.node_data.specs.declared.kid.Kid.TheVariants.{Token, Node}
+use Rattle.node_data.specs.declared.kid.Kid.TheVariants.{Token, Node, Hidden}
 use Rattle.tree_theory.specs.Stores.{Ref, Store, Shows}
 use Rattle.sheet_data.specs.Sheet.{Sheet}
 use Rattle.translation_theory.specs.TokenTexts.{IsInText}
@@ -18,6 +18,10 @@ abbrev pub pending_kids : List ℕ → List Bool → ℕ → List Sym → List K
 pending_kids declared marking i [] kids = []
 pending_kids declared marking i (x ∷ xs) [] = []
 pending_kids declared marking i (x ∷ xs) (kid ∷ kids) = pending_kids declared marking (suc i) xs kids ++ (if is_marked_part declared marking i x then kid ∷ [] else [])
+
+-- the kids at these places, counted from 0
+abbrev pub kids_at : List Kid → List ℕ → List Kid
+kids_at kids places = map (λ (place : ℕ). slice_index_or kids place Hidden) places
 
 -- the marked leaves of parts: each is a marked leaf, or shows a tree
 pub data ArePending (sheet : Sheet) (text : List ℕ) (store : Store) : List Kid → List TextToken → Type 0 where

@@ -2,6 +2,7 @@
 #![tactic(auto)]
 
 mod entries;
+mod marked_places;
 mod markings;
 mod names;
 mod parts;

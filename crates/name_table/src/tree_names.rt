@@ -1,13 +1,15 @@
 //! The names of a tree.
-ghost use Rattle.std.specs.Prelude.{◌≡◌, ◌≤◌, ◌++◌, ◌∷◌, [], List, All, length, IfOk, OnOk};
+ghost use Rattle.std.specs.Prelude.{◌≡◌, ◌≤◌, ◌++◌, ◌∷◌, [], Bool, List, length, IfOk, OnOk};
 ghost use Rattle.grammar_data.specs.declared.token.Token.{Token as TextToken};
 ghost use Rattle.grammar_theory.specs.Trees.{Tree};
 ghost use Rattle.node_store.specs.Chunks.{store_of};
+ghost use Rattle.sheet_data.specs.Sheet.{Sheet as SheetParts};
 ghost use Rattle.translation_theory.specs.DeclaredNames.{names_of};
 ghost use Rattle.finished_theory.specs.FinishedTrees.{IsFinished};
-ghost use Rattle.name_table.specs.Markings.{AreSettled};
+ghost use Rattle.name_table.specs.Markings.{AreMarkedPlaces, AreSettled, lists_of};
 ghost use Rattle.name_table.specs.Pending.{IsUnderWay};
 
+use crate::marked_places::all_places;
 use crate::markings::marking_names;
 use crate::names::Names;
 use crate::parts::push_parts;
@@ -19,17 +21,18 @@ use std::alloc::Global;
 
 /// Looks at one part: a marked leaf is noted, and those parts of a node that may have marked leaves are put behind the others.
 fn take_part<'a>(
-    sheet: &Sheet,
-    marking: &[bool],
+    places: &[Vec<usize>],
     store: &Store,
     text: &'a [u8],
     part: PackedKid,
     parts: &mut Vec<PackedKid>,
     names: &mut Names<'a>,
 ) -> Result<(), NoMemory>
-    requires settled { AreSettled sheet.now marking.now }
-    requires way { (all : List TextToken) × (length all ≤ TEXT_BYTES) × IsUnderWay sheet.now text.now (store_of store.now) all (parts.old.items ++ part ∷ []) names.old }
-    ensures { (all : List TextToken) → length all ≤ TEXT_BYTES → IsUnderWay sheet.now text.now (store_of store.now) all (parts.old.items ++ part ∷ []) names.old → OnOk result (IsUnderWay sheet.now text.now (store_of store.now) all parts.new.items names.new) }
+    requires { (sheet : SheetParts) × (marking : List Bool) × (all : List TextToken) × AreSettled sheet marking × AreMarkedPlaces sheet marking (lists_of places.now)
+        × (length all ≤ TEXT_BYTES) × IsUnderWay sheet text.now (store_of store.now) all (parts.old.items ++ part ∷ []) names.old }
+    ensures { (sheet : SheetParts) (marking : List Bool) (all : List TextToken) → AreSettled sheet marking → AreMarkedPlaces sheet marking (lists_of places.now)
+        → length all ≤ TEXT_BYTES → IsUnderWay sheet text.now (store_of store.now) all (parts.old.items ++ part ∷ []) names.old
+        → OnOk result (IsUnderWay sheet text.now (store_of store.now) all parts.new.items names.new) }
 {
     match part.kid() {
         Kid::Token(token) => {
@@ -38,10 +41,8 @@ fn take_part<'a>(
             names.note(&text[start..end], token.place.line)
         }
         Kid::Node(node) => {
-            let rule = store.rule(node);
-            let declared = sheet.declares(rule);
-            let right = sheet.grammar().right(rule);
-            push_parts(declared, marking, right, store.kids(node), parts)
+            let places = &places[store.rule(node).0 as usize];
+            push_parts(places, store.kids(node), parts)
         }
         Kid::Hidden => Ok(()),
     }
@@ -63,13 +64,14 @@ pub fn declared<'a>(
     ensures { IfOk result (λ names. (tree : Tree) → IsFinished sheet.now text.now (store_of store.now) root tree → names ≡ names_of sheet.now text.now tree) }
 {
     let marking = marking_names(alloc, sheet)?;
+    let places = all_places(alloc, sheet, &marking)?;
     let mut names = Names::new(alloc);
     let mut parts = Vec::new(alloc);
     parts.push(PackedKid::of(Kid::Node(root)))?;
     // No tree has so many parts that this ends before they do.
     for _ in 0..u64::MAX {
         match parts.pop() {
-            Some(part) => take_part(sheet, &marking, store, text, part, &mut parts, &mut names)?,
+            Some(part) => take_part(&places, store, text, part, &mut parts, &mut names)?,
             None => return Ok(names),
         }
     }
