@@ -1,12 +1,12 @@
 -- A translation that is being written.
-use Rattle.std.proofs.Common.{◌≡◌, ℕ, List, [], ◌++◌, Ok, Err, length, refl, sym, ap, ◌∙◌, subst, append_assoc, append-nil}
+use Rattle.std.proofs.Common.{◌≡◌, ℕ, List, [], ◌++◌, Ok, Err, refl, sym, ap, ◌∙◌, subst, append_assoc, append-nil}
+use Rattle.std.specs.Prelude.{Option}
 use Rattle.lr_base.specs.Outside.{SinkSeen, Takes, Fails}
 use Rattle.writing_theory.specs.Writing.{Passes, IsWritten, all_taken, part_taken}
 use Rattle.writing_theory.specs.declared.fault.WriteFault.TheVariants.{Failed, NoMemory}
-use Rattle.writing_theory.proofs.BlockLemmas.{passes_first, passes_more, fails_behind, all_passed, cut_behind}
+use Rattle.writing_theory.proofs.BlockLemmas.{takes_nothing, passes_first, passes_more, fails_behind, all_passed, cut_behind}
 use Rattle.templates.specs.Sources.{Source}
-use Rattle.templates.specs.Pending.{Pending, all_ended, GoesOn}
-use Rattle.templates.proofs.PendingLemmas.{none_of}
+use Rattle.templates.specs.Pending.{Pending, all_ended, GoesOn, with_next}
 use Rattle.templates.specs.declared.frame.Frame.{Frame}
 
 -- of the whole translation the first bytes were taken or are gathered, and the others are pending
@@ -39,6 +39,10 @@ goes_on before now later {old} {gathered} {new} underway step passes =
       joined = underway.joined ∙ ap (λ l. underway.written ++ l) goes.joined ∙ sym (append_assoc underway.written goes.added goes.rest);
     }
 
+-- a step whose next template is known
+pub goes_by : {source : Source} {frames : List Frame} {before after : List ℕ} (now : List Frame) (next other : Option Frame) → next ≡ other → GoesOn source frames (with_next now next) before after → GoesOn source frames (with_next now other) before after
+goes_by {source} {frames} {before} {after} now next other is step = subst (λ next. GoesOn source frames (with_next now next) before after) is step
+
 -- the sink failed behind a step
 pub step_failed : {source : Source} (before now later : SinkSeen) {old gathered : List ℕ} {frames others : List Frame} {whole : List ℕ} → IsUnderway source before now old frames whole → GoesOn source frames others old gathered → Fails now later gathered → IsWritten (IsWhole whole) before later (Err Failed)
 step_failed before now later {old} {gathered} {whole = whole} underway step fails =
@@ -56,15 +60,17 @@ all_of_it underway = underway.joined ∙ ap (λ l. underway.written ++ l) (nothi
     nothing : {source : Source} {bytes : List ℕ} → Pending source [] bytes → bytes ≡ []
     nothing all_ended = refl
 
-at_end : {source : Source} {before now : SinkSeen} {old : List ℕ} (frames : List Frame) {whole : List ℕ} → length frames ≡ 0 → IsUnderway source before now old frames whole → IsUnderway source before now old [] whole
-at_end {source} {before} {now} {old} frames {whole} none underway = subst (λ frames. IsUnderway source before now old frames whole) (none_of frames none) underway
+-- a step after which no template is begun any more
+at_end : {source : Source} (before now : SinkSeen) {old gathered : List ℕ} {frames others : List Frame} {whole : List ℕ} → others ≡ [] → IsUnderway source before now old frames whole → GoesOn source frames others old gathered → IsUnderway source before now gathered [] whole
+at_end {source} before now {gathered = gathered} {whole = whole} none underway step =
+    subst (λ frames. IsUnderway source before now gathered frames whole) none (goes_on before now now underway step (record { taken = []; takes = takes_nothing now; joined = append-nil gathered }))
 
-pub ends : {source : Source} (before now later : SinkSeen) {old : List ℕ} (frames : List Frame) {whole : List ℕ} → length frames ≡ 0 → IsUnderway source before now old frames whole → Takes now later old → IsWritten (IsWhole whole) before later (Ok tt)
-ends {source} before now later {old} frames {whole} none underway takes =
-    let ended : IsUnderway source before now old [] whole = at_end frames none underway in
-    all_taken refl (all_passed before now later old old ended.written [] whole ended.passed (sym (append-nil old)) takes (all_of_it ended))
+pub ends : {source : Source} (before now later : SinkSeen) {old gathered : List ℕ} {frames others : List Frame} {whole : List ℕ} → others ≡ [] → IsUnderway source before now old frames whole → GoesOn source frames others old gathered → Takes now later gathered → IsWritten (IsWhole whole) before later (Ok tt)
+ends {source} before now later {gathered = gathered} {whole = whole} none underway step takes =
+    let ended : IsUnderway source before now gathered [] whole = at_end before now none underway step in
+    all_taken refl (all_passed before now later gathered gathered ended.written [] whole ended.passed (sym (append-nil gathered)) takes (all_of_it ended))
 
-pub end_failed : {source : Source} (before now later : SinkSeen) {old : List ℕ} (frames : List Frame) {whole : List ℕ} → length frames ≡ 0 → IsUnderway source before now old frames whole → Fails now later old → IsWritten (IsWhole whole) before later (Err Failed)
-end_failed {source} before now later {old} frames {whole} none underway fails =
-    let ended : IsUnderway source before now old [] whole = at_end frames none underway in
-    part_taken refl (fails_behind before now later old old ended.written [] [] whole ended.passed (sym (append-nil old)) fails (all_of_it ended))
+pub end_failed : {source : Source} (before now later : SinkSeen) {old gathered : List ℕ} {frames others : List Frame} {whole : List ℕ} → others ≡ [] → IsUnderway source before now old frames whole → GoesOn source frames others old gathered → Fails now later gathered → IsWritten (IsWhole whole) before later (Err Failed)
+end_failed {source} before now later {gathered = gathered} {whole = whole} none underway step fails =
+    let ended : IsUnderway source before now gathered [] whole = at_end before now none underway step in
+    part_taken refl (fails_behind before now later gathered gathered ended.written [] [] whole ended.passed (sym (append-nil gathered)) fails (all_of_it ended))

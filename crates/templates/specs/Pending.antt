@@ -1,5 +1,6 @@
 -- What is still to be written of a tree: the nodes whose templates were begun and not ended, each inside the one before it.
-use Rattle.std.specs.Prelude.{◌≡◌, ℕ, List, [], ◌∷◌, ◌++◌}
+use Rattle.std.specs.Prelude.{◌≡◌, ◌≢◌, ℕ, List, [], ◌∷◌, ◌++◌, Option}
+use Rattle.std.specs.Option.{option_to_list}
 use Rattle.grammar_theory.specs.Trees.{Forest}
 use Rattle.node_store.specs.Kids.{kids_seen}
 use Rattle.sheet_data.specs.declared.parts.Part.{Part}
@@ -32,19 +33,24 @@ pub record Goes (source : Source) (frames : List Frame) (before after bytes : Li
 abbrev pub GoesOn : Source → List Frame → List Frame → List ℕ → List ℕ → Type 0
 GoesOn source frames now before after = (bytes : List ℕ) → Pending source frames bytes → Goes source now before after bytes
 
--- one more node's bytes: they are gathered, or its template is begun
-pub data Unfolds (source : Source) (frames now : List Frame) (before after bytes : List ℕ) : Type 0 where
-  gathered : now ≡ frames → after ≡ before ++ bytes → Unfolds source frames now before after bytes
-  begun : {frame : Frame} → now ≡ frames ++ frame ∷ [] → Gives source frame bytes → after ≡ before → Unfolds source frames now before after bytes
+-- the begun templates with the one to go on with behind them, if any
+abbrev pub with_next : List Frame → Option Frame → List Frame
+with_next frames next = frames ++ option_to_list next
 
--- a begun template stands behind the others; where it has no part left, it is ended
-pub data HasLeft (next : Frame) (others now : List Frame) : Type 0 where
-  nothing_left : next.parts.now ≡ [] → now ≡ others → HasLeft next others now
-  parts_left : now ≡ others ++ next ∷ [] → HasLeft next others now
+-- what is left of a begun template stands behind the others; where nothing is left of it, it is ended
+pub data HasLeft (left : Frame) (others now : List Frame) : Type 0 where
+  nothing_left : left.parts.now ≡ [] → now ≡ others → HasLeft left others now
+  parts_left : left.parts.now ≢ [] → now ≡ others ++ left ∷ [] → HasLeft left others now
+
+-- the bytes of one more part: they are gathered, and the same template goes on, or its kid's template is begun and goes on, and
+-- what is left of the other stands behind those begun before
+pub data Unfolds (source : Source) (left : Frame) (frames : List Frame) (next : Frame) (now : List Frame) (before after bytes : List ℕ) : Type 0 where
+  gathered : next ≡ left → now ≡ frames → after ≡ before ++ bytes → Unfolds source left frames next now before after bytes
+  begun : HasLeft left frames now → Gives source next bytes → after ≡ before → Unfolds source left frames next now before after bytes
 
 -- what a step does to the begun templates: where the last one has no part left, it is ended; else its next part is gone, and
--- others may be begun behind what is left of it
+-- where that is a kid's template, this is begun, and the other is ended before it, where no part is left of it
 pub data Moves (frames now : List Frame) : Type 0 where
-  none_begun : frames ≡ [] → now ≡ frames → Moves frames now
   last_ended : (others : List Frame) (frame : Frame) → frames ≡ others ++ frame ∷ [] → frame.parts.now ≡ [] → now ≡ others → Moves frames now
-  part_gone : (others : List Frame) (frame next : Frame) (part : Part) (left more : List Frame) → frames ≡ others ++ frame ∷ [] → frame.parts.now ≡ part ∷ next.parts.now → kids_seen next.kids ≡ (kids_seen frame.kids) → HasLeft next others left → now ≡ left ++ more → Moves frames now
+  part_gone : (others : List Frame) (frame left : Frame) (part : Part) → frames ≡ others ++ frame ∷ [] → frame.parts.now ≡ part ∷ left.parts.now → kids_seen left.kids ≡ (kids_seen frame.kids) → now ≡ others ++ left ∷ [] → Moves frames now
+  kid_begun : (others : List Frame) (frame left next : Frame) (part : Part) (more : List Frame) → frames ≡ others ++ frame ∷ [] → frame.parts.now ≡ part ∷ left.parts.now → kids_seen left.kids ≡ (kids_seen frame.kids) → HasLeft left others more → now ≡ more ++ next ∷ [] → Moves frames now

@@ -7,7 +7,7 @@ ghost use Rattle.translation_theory.specs.Translations.{translation_by};
 ghost use Rattle.writing_theory.specs.Writing.{IsWritten};
 
 use crate::source::Source;
-use crate::steps::{begin, step};
+use crate::steps::step;
 use block_writer::{Blocks, WriteFault};
 use lr_base::Sink;
 use node_store::NodeRef;
@@ -25,15 +25,16 @@ pub fn write_tree<O: Sink>(
         → IsWritten (λ bytes. bytes ≡ translation_by source.now.sheet source.now.text source.now.names tree) (O.seen out.old) (O.seen out.new) result }
     ensures same { IsSameSink (O.seen out.old) (O.seen out.new) }
 {
-    let mut frames = begin(alloc, source, root)?;
+    let mut last = source.frame(root);
+    let mut frames = Vec::new(alloc);
     let mut blocks = Blocks::new(alloc);
     for _step in 0..u64::MAX {
-        if frames.is_empty() {
+        let Some(next) = step(source, last, &mut frames, &mut blocks.gathered)? else {
             blocks.finish(out)?;
             return Ok(());
-        }
-        step(source, &mut frames, &mut blocks.gathered)?;
+        };
         blocks.pass(out)?;
+        last = next;
     }
     Err(WriteFault::NoMemory)
 }
