@@ -26,18 +26,42 @@ use Rattle.lr_base.specs.declared.limits.TheConstants.{TEXT_BYTES}
 use Rattle.scanning_theory.specs.Lines.{line_feed}
 use Rattle.scanning_theory.specs.Scan.{Scanning}
 use Rattle.sample_theory.specs.Choices.{AreChosen, no_symbol, takes_token, draws_rule, closes_name, AreChosenTokens, HaveClosingRules}
+use Rattle.sample_theory.specs.ClosingRules.{IsClosingRule}
 use Rattle.sample_theory.specs.Samples.{IsWordFor, HasNoWordFor, AreWordsFor, no_token, word_first, lines_of, IsSample, Text, NoSample, TooLong}
 use Rattle.sample_theory.proofs.ChoiceLemmas.{some_choice}
 use Rattle.sample_theory.proofs.SampleLemmas.{words_append}
 use Rattle.sample_text.specs.Choosing.{IsChoice, is_drawn, is_closed}
 
--- the words of the first tokens stand in the text, and whatever is chosen for the symbols that are left follows them
-pub record IsSampling (scanning : Scanning) (g : Grammar) (from size drawn : ℕ) (left : List Sym) (text : List ℕ) : Type 0 where
+-- the words of the first tokens stand in the text, and with whatever is chosen for the symbols that are left behind them the
+-- tokens are of a set
+pub record IsMaking (scanning : Scanning) (g : Grammar) (from size : ℕ) (IsWhole : List ℕ → Type 0) (drawn : ℕ) (left : List Sym) (text : List ℕ) : Type 0 where
   pub tokens : List ℕ
   pub words : List (List ℕ)
   pub are : AreWordsFor scanning tokens words
   pub is : text ≡ lines_of words
-  pub chosen : (rest : List ℕ) → AreChosen g from size drawn left rest → AreChosenTokens g from size (tokens ++ rest)
+  pub chosen : (rest : List ℕ) → AreChosen g from size drawn left rest → IsWhole (tokens ++ rest)
+
+-- with whatever is chosen for the symbols that are left they are the chosen tokens
+abbrev pub IsSampling : Scanning → Grammar → ℕ → ℕ → ℕ → List Sym → List ℕ → Type 0
+IsSampling scanning g from size drawn left text = IsMaking scanning g from size (AreChosenTokens g from size) drawn left text
+
+-- the words of further tokens stand behind the text, which are chosen for the first of the symbols
+pub makes : {scanning : Scanning} {g : Grammar} {from size drawn : ℕ} {IsWhole : List ℕ → Type 0} {old left : List Sym} {text : List ℕ} (more : List ℕ) (words : List (List ℕ))
+    → IsMaking scanning g from size IsWhole drawn old text → AreWordsFor scanning more words
+    → ((rest : List ℕ) → AreChosen g from size drawn left rest → AreChosen g from size drawn old (more ++ rest))
+    → IsMaking scanning g from size IsWhole drawn left (text ++ lines_of words)
+makes {IsWhole = IsWhole} more words s are chosen = record {
+  tokens = s.tokens ++ more;
+  words = s.words ++ words;
+  are = words_append s.are are;
+  is = ap (λ l. l ++ lines_of words) s.is ∙ sym (flat_map-append (λ (w : List ℕ). w ++ line_feed ∷ []) s.words words);
+  chosen = λ rest all. subst IsWhole (sym (append_assoc s.tokens more rest)) (s.chosen (more ++ rest) (chosen rest all));
+}
+
+-- a closing rule's right side stands in place of its name
+pub closes : {scanning : Scanning} {g : Grammar} {from size drawn : ℕ} {IsWhole : List ℕ → Type 0} {left : List Sym} {text : List ℕ} {n rule : ℕ} {right : List Sym}
+    → IsMaking scanning g from size IsWhole drawn (Name n ∷ left) text → size ≤ drawn → IsClosingRule g n rule right → IsMaking scanning g from size IsWhole drawn (right ++ left) text
+closes s all closing = record { tokens = s.tokens; words = s.words; are = s.are; is = s.is; chosen = λ rest chosen. s.chosen rest (closes_name all closing chosen) }
 
 module _ (scanning : Scanning) (g : Grammar) (from size : ℕ) where
   pub begins : IsSampling scanning g from size 0 (Name g.start ∷ []) []
@@ -45,13 +69,8 @@ module _ (scanning : Scanning) (g : Grammar) (from size : ℕ) where
 
   module _ (drawn : ℕ) (left : List Sym) (text : List ℕ) where
     pub writes : (a : ℕ) (word : List ℕ) → IsSampling scanning g from size drawn (Token a ∷ left) text → IsWordFor scanning a word → IsSampling scanning g from size drawn left (text ++ (word ++ line_feed ∷ []))
-    writes a word s for_a = record {
-      tokens = s.tokens ++ a ∷ [];
-      words = s.words ++ word ∷ [];
-      are = words_append s.are (word_first for_a no_token);
-      is = ap (λ l. l ++ (word ++ line_feed ∷ [])) s.is ∙ ap (λ l. lines_of s.words ++ l) (sym (append-nil (word ++ line_feed ∷ []))) ∙ sym (flat_map-append (λ (w : List ℕ). w ++ line_feed ∷ []) s.words (word ∷ []));
-      chosen = λ rest chosen. subst (AreChosenTokens g from size) (sym (append_assoc s.tokens (a ∷ []) rest)) (s.chosen (a ∷ rest) (takes_token chosen));
-    }
+    writes a word s for_a = subst (λ l. IsSampling scanning g from size drawn left (text ++ l)) (append-nil (word ++ line_feed ∷ []))
+        (makes (a ∷ []) (word ∷ []) s (word_first for_a no_token) (λ rest chosen. takes_token chosen))
 
     pub goes_on : (n r now : ℕ) → IsSampling scanning g from size drawn (Name n ∷ left) text → IsChoice g from size drawn n r now → (right : List Sym) → IsRule g.rules r n right → IsSampling scanning g from size now (right ++ left) text
     goes_on n r now s (is_drawn {right = side} less later drew) right rule =
@@ -66,14 +85,7 @@ module _ (scanning : Scanning) (g : Grammar) (from size : ℕ) where
         }
     goes_on n r now s (is_closed {right = side} all same_count closing) right rule =
         let same = (rule_once closing.rule rule).1 in
-        record {
-          tokens = s.tokens;
-          words = s.words;
-          are = s.are;
-          is = s.is;
-          chosen = λ rest chosen. s.chosen rest (closes_name all closing
-              (subst (λ k. AreChosen g from size k (side ++ left) rest) same_count (subst (λ l. AreChosen g from size now (l ++ left) rest) (sym same) chosen)));
-        }
+        subst (λ k. IsSampling scanning g from size k (right ++ left) text) (sym same_count) (subst (λ l. IsSampling scanning g from size drawn (l ++ left) text) same (closes s all closing))
 
     pub is_without : (a : ℕ) → IsSampling scanning g from size drawn (Token a ∷ left) text → length text ≤ TEXT_BYTES → HasNoWordFor scanning a → (rest : List ℕ) → AreChosen g from size drawn left rest → IsSample scanning g from size (NoSample a)
     is_without a s fits none rest chosen = record {

@@ -1,4 +1,5 @@
 pub mod Answering
 pub mod Choosing
+pub mod ClosingTexts
 pub mod Closings
 pub mod Wording

@@ -1,6 +1,6 @@
 //! The rules that are chosen for names: the first by numbers, the later ones so that each derivation ends.
 ghost use Rattle.std.specs.Prelude.{◌≡◌, ℕ, ◌<◌, List, length, IfOk};
-ghost use Rattle.grammar_data.specs.declared.rule.Sym.{Sym};
+ghost use Rattle.grammar_data.specs.declared.rule.Sym.{Sym as Symbol};
 ghost use Rattle.grammar_theory.specs.UsefulNames.{AllProductive};
 ghost use Rattle.sample_theory.specs.Choices.{next_number, number_at, picked};
 ghost use Rattle.sample_theory.specs.ClosingRules.{IsClosingRule};
@@ -8,7 +8,7 @@ ghost use Rattle.sample_text.specs.Choosing.{CanChoose, IsChoice, IsPicked};
 
 use crate::alternatives::rules_by_name;
 use crate::closing::{Closing, closing_rules};
-use grammar_data::{NameId, RuleId};
+use grammar_data::{NameId, RuleId, Sym};
 use lr_base::{Grammar, NoMemory};
 use std::alloc::Global;
 
@@ -70,28 +70,42 @@ impl<'a> Chooser<'a> {
         })
     }
 
-    /// The rule that is chosen for a name: one of its rules by the next number, or its closing rule where all choices
-    /// were drawn.
-    pub fn choose(&self, draws: &mut Draws, name: NameId) -> RuleId
+    /// The grammar.
+    pub fn grammar(&self) -> &Grammar
+        ensures { result.now ≡ self.now.grammar.now }
+    {
+        self.grammar
+    }
+
+    /// The rule that is drawn for a name while choices are left: the one of its rules that the next number picks.
+    pub fn draw(&self, draws: &mut Draws, name: NameId) -> RuleId
         requires name { name < self.now.grammar.now.names }
         requires can { CanChoose self.now.grammar.now self.now.lists.items self.now.closings.items }
+        requires left { draws.old.drawn < self.now.size }
         ensures choice { (from : ℕ) → draws.old.number ≡ number_at from draws.old.drawn → IsChoice self.now.grammar.now from self.now.size draws.old.drawn name result draws.new.drawn }
         ensures number { (from : ℕ) → draws.old.number ≡ number_at from draws.old.drawn → draws.new.number ≡ number_at from draws.new.drawn }
         ensures rule { result < length self.now.grammar.now.rules }
     {
-        if draws.drawn >= self.size {
-            return self.closing_rule(name);
-        }
         draws.number = next(draws.number);
         draws.drawn += 1;
         self.picked_rule(name, draws.number)
+    }
+
+    /// The right side of a name's closing rule.
+    pub fn closing_side(&self, name: NameId) -> &[Sym]
+        requires name { name < self.now.grammar.now.names }
+        requires can { CanChoose self.now.grammar.now self.now.lists.items self.now.closings.items }
+        ensures { (rule : ℕ) × IsClosingRule self.now.grammar.now name rule result.now }
+    {
+        self.grammar.right(self.closing_rule(name))
     }
 
     /// The closing rule of a name.
     fn closing_rule(&self, name: NameId) -> RuleId
         requires name { name < self.now.grammar.now.names }
         requires can { CanChoose self.now.grammar.now self.now.lists.items self.now.closings.items }
-        ensures { (right : List Sym) × IsClosingRule self.now.grammar.now name result right }
+        ensures closing { (right : List Symbol) × IsClosingRule self.now.grammar.now name result right }
+        ensures rule { result < length self.now.grammar.now.rules }
     {
         match self.closings[name.0 as usize] {
             Some(closing) => closing.rule,
@@ -103,7 +117,7 @@ impl<'a> Chooser<'a> {
     fn picked_rule(&self, name: NameId, number: u64) -> RuleId
         requires name { name < self.now.grammar.now.names }
         requires can { CanChoose self.now.grammar.now self.now.lists.items self.now.closings.items }
-        ensures { (right : List Sym) × IsPicked self.now.grammar.now name number result right }
+        ensures { (right : List Symbol) × IsPicked self.now.grammar.now name number result right }
     {
         let rules = &self.lists[name.0 as usize];
         rules[pick(number, rules.len())]

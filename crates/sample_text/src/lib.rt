@@ -4,6 +4,7 @@
 mod alternatives;
 mod choices;
 mod closing;
+mod closing_texts;
 mod fault;
 mod sampling;
 mod words;

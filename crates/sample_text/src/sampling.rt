@@ -1,5 +1,5 @@
 //! The sample text.
-ghost use Rattle.std.specs.Prelude.{◌≡◌, ◌≤◌, ◌++◌, length, reverse, IfOk, IfErr, OnOk};
+ghost use Rattle.std.specs.Prelude.{◌≡◌, ◌≤◌, length, IfOk, IfErr};
 ghost use Rattle.grammar_theory.specs.UsefulNames.{AllProductive};
 ghost use Rattle.sample_theory.specs.Samples.{IsSample, Text};
 ghost use Rattle.scanning_theory.specs.Scan.{Scanning};
@@ -7,6 +7,7 @@ ghost use Rattle.sample_text.specs.Answering.{IsFault};
 ghost use Rattle.sample_text.specs.Wording.{AreUnknown, IsScannedBy};
 
 use crate::choices::{Chooser, Draws};
+use crate::closing_texts::{close, put_first};
 use crate::fault::SampleFault;
 use crate::words::write_word;
 use grammar_data::Sym;
@@ -41,6 +42,7 @@ pub fn generate(
         number: from,
         drawn: 0,
     };
+    let mut texts = Vec::new(alloc);
     let mut text = Vec::new(alloc);
     let mut todo = Vec::new(alloc);
     todo.push(Sym::Name(grammar.start()))?;
@@ -54,8 +56,14 @@ pub fn generate(
                 write_word(alloc, scanner, means, &mut found, token, &mut text)?;
             }
             Sym::Name(name) => {
-                let rule = chooser.choose(&mut draws, name);
-                put_first(&mut todo, grammar.right(rule))?;
+                if draws.drawn < size {
+                    let rule = chooser.draw(&mut draws, name);
+                    put_first(&mut todo, grammar.right(rule))?;
+                } else {
+                    close(
+                        alloc, &chooser, &found, &mut texts, name, &mut todo, &mut text,
+                    )?;
+                }
             }
         }
     }
@@ -72,14 +80,4 @@ fn no_words(alloc: Global, tokens: u32) -> Result<Vec<Option<Vec<u8>>>, NoMemory
         found.push(None)?;
     }
     Ok(found)
-}
-
-/// Puts a right side before the symbols that are left, which are kept from the last one to the first.
-fn put_first(todo: &mut Vec<Sym>, right: &[Sym]) -> Result<(), NoMemory>
-    ensures { OnOk result (todo.new.items ≡ todo.old.items ++ reverse right.now) }
-{
-    for place in 0..right.len() {
-        todo.push(right[right.len() - 1 - place])?;
-    }
-    Ok(())
 }

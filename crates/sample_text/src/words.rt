@@ -49,7 +49,7 @@ fn find_word(
 }
 
 /// Appends a line, unless the text passes its limit with it.
-fn append(text: &mut Vec<u8>, line: &[u8]) -> Result<(), SampleFault>
+pub fn append(text: &mut Vec<u8>, line: &[u8]) -> Result<(), SampleFault>
     requires { length text.old.items ≤ TEXT_BYTES }
     ensures text { IfOk result (λ _. text.new.items ≡ text.old.items ++ line.now) }
     ensures fits { IfOk result (λ _. length text.new.items ≤ TEXT_BYTES) }

@@ -4,6 +4,7 @@ use Rattle.lr_base.specs.IsGrammar.{IsSymbolOf}
 use Rattle.scanning_theory.specs.Scan.{Scanning}
 use Rattle.sample_theory.specs.Choices.{number_at}
 use Rattle.sample_text.specs.Choosing.{CanChoose}
+use Rattle.sample_text.specs.ClosingTexts.{HaveClosingTexts}
 use Rattle.sample_text.specs.Wording.{AreKnown, IsScannedBy}
 use Rattle.sample_text.proofs.SamplingLemmas.{IsSampling}
 use Rattle.sample_text.proofs.sampling.generate.Given as goal
@@ -15,6 +16,7 @@ invariant-loop l = record {
   can : CanChoose l.grammar l.chooser.lists.items l.chooser.closings.items;
   count : length l.found.items ≡ l.grammar.tokens;
   known : AreKnown l.scanner l.means l.found.items;
+  texts : (scanning : Scanning) → IsScannedBy l.scanner l.means scanning → HaveClosingTexts scanning l.grammar l.texts.items;
   number : l.draws.number ≡ number_at l.fn.from l.draws.drawn;
   symbols : All (IsSymbolOf l.grammar.tokens l.grammar.names) l.todo.items;
   fits : length l.text.items ≤ TEXT_BYTES;

@@ -1,18 +1,10 @@
-use Rattle.std.proofs.Common.{◌≡◌, ℕ, suc, List, length, refl, sym, ap, ◌∙◌, arith}
+use Rattle.std.proofs.Common.{◌≡◌, ℕ, suc, List, length, sym, ap, ◌∙◌, arith}
 use Rattle.std.specs.Prelude.{slice_get}
 use Rattle.std.proofs.lemmas.Option.{slice_get_within}
 use Rattle.sample_theory.specs.Choices.{next_number, number_at, picked, rules_of}
 use Rattle.sample_theory.proofs.ChoiceLemmas.{number_next}
-use Rattle.sample_text.specs.Choosing.{is_drawn, is_closed}
-use Rattle.sample_text.proofs.choices.Chooser.choose.Goals as goal
-
-pub returns-then-draws-self-clause-choice : goal.returns-then-draws-self-clause-choice
-returns-then-draws-self-clause-choice c = λ from number. is_closed (omega (arith, c.if-draws-self.true)) refl c.closing_rule.ensures.1
-
-pub returns-then-draws-self-clause-rule : goal.returns-then-draws-self-clause-rule
-returns-then-draws-self-clause-rule c =
-    let e = c.closing_rule.ensures in
-    slice_get_within c.args.self.now.grammar.now.rules c.closing_rule.result (c.args.name, e.0) e.1.rule.found
+use Rattle.sample_text.specs.Choosing.{is_drawn}
+use Rattle.sample_text.proofs.choices.Chooser.draw.Goals as goal
 
 pub returns-clause-number : goal.returns-clause-number
 returns-clause-number c = λ from number. c.next-draws.ensures ∙ ap next_number number ∙ sym (number_next from c.args.draws.now.drawn) ∙ ap (number_at from) (omega arith)
@@ -23,7 +15,7 @@ returns-clause-choice c = λ from number.
     let now : c.next-draws.result ≡ number_at from (suc c.args.draws.now.drawn) = c.next-draws.ensures ∙ ap next_number number ∙ sym (number_next from c.args.draws.now.drawn) in
     let g = c.args.self.now.grammar.now in
     let list : List ℕ = rules_of g.rules c.args.name in
-    is_drawn (omega (arith, c.if-draws-self.false)) (omega arith) (record { rule = e.1.rule; here = ap (λ x. slice_get list (picked x (length list))) (sym now) ∙ e.1.here })
+    is_drawn c.requires.left (omega arith) (record { rule = e.1.rule; here = ap (λ x. slice_get list (picked x (length list))) (sym now) ∙ e.1.here })
 
 pub returns-clause-rule : goal.returns-clause-rule
 returns-clause-rule c =

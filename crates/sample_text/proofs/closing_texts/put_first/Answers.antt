@@ -1,6 +1,6 @@
 use Rattle.std.proofs.Common.{◌∙◌}
 use Rattle.sample_text.proofs.SamplingLemmas.{first_turned, turned_more, all_turned}
-use Rattle.sample_text.proofs.sampling.put_first.Goals as goal
+use Rattle.sample_text.proofs.closing_texts.put_first.Goals as goal
 
 pub loop-place-init : goal.loop-place-init
 loop-place-init c = first_turned c.args.todo.now.items c.args.right.now
