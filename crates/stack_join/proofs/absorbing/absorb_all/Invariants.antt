@@ -1,0 +1,22 @@
+use Rattle.std.proofs.Common.{◌≡◌, [], List, take}
+use Rattle.grammar_data.specs.declared.token.Token.{Token as TextToken}
+use Rattle.piece_theory.specs.Pieces.{Piece}
+use Rattle.use_theory.specs.Kept.{IsKept}
+use Rattle.bare_theory.specs.Bare.{bares}
+use Rattle.node_store.specs.Chunks.{numbers_in, store_of}
+use Rattle.piece_lists.specs.Lists.{pieces_in}
+use Rattle.arrow_table.specs.Looks.{Grows}
+use Rattle.stack_join.specs.Joining.{IsAtSeam}
+use Rattle.stack_join.proofs.AbsorbLemmas.{ArePutTo}
+use Rattle.stack_join.proofs.absorbing.absorb_all.Given as goal
+
+abbrev pub invariant-loop-part : goal.invariant-loop-part
+invariant-loop-part l = record {
+  tables : l.arrows.0 ≡ l.initial.arrows.0;
+  grows : Grows l.initial.arrows.1 l.arrows.1;
+  chunks : numbers_in l.store ≡ numbers_in l.initial.store;
+  closed : l.leaf.block.closed ≡ l.initial.leaf.block.closed;
+  kept : IsKept (store_of l.initial.store) (store_of l.store);
+  none : pieces_in (take l.part-index l.parts) ≡ [];
+  at : (front rest : List Piece) (w : List TextToken) → bares rest ≡ pieces_in l.initial.parts → IsAtSeam l.initial.arrows.0 (store_of l.initial.store) l.initial.arrows.1 l.initial.leaf front rest w → ArePutTo l.initial.arrows.0 (store_of l.store) l.arrows.1 l.leaf front l.parts l.part-index w;
+}

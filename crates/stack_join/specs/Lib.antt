@@ -1,0 +1,4 @@
+pub mod Entering
+pub mod Joining
+pub mod Landing
+pub mod Putting
