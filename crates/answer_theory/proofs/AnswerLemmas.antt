@@ -6,7 +6,7 @@ use Rattle.run_theory.proofs.TokenLemmas.{counted}
 use Rattle.answer_theory.specs.declared.status.Status.{Status}
 use Rattle.answer_theory.specs.declared.status.Status.TheVariants.{SheetRefused}
 use Rattle.answer_theory.specs.declared.task.Task.{Task}
-use Rattle.answer_theory.specs.Tasks.{looking, inputs_of}
+use Rattle.answer_theory.specs.Tasks.{looking, inputs_of, CanBeDone}
 use Rattle.answer_theory.specs.Sheets.{IsAccepted, IsRefused}
 use Rattle.answer_theory.specs.Work.{IsWork}
 use Rattle.answer_theory.specs.Answers.{AreWithin, IsPassed, Answers, sheet_refused, input_too_long, work_done}
@@ -67,10 +67,10 @@ answer_once {task = task} more (work_done {bytes = bytes} {inputs = inputs} {she
 abbrev HasNoAnswer : Task → List (List ℕ) → Type 0
 HasNoAnswer task inputs = (before more : List (List ℕ)) (status : Status) (out err : List ℕ) → inputs ≡ before ++ more → ¬ (Answers task before status out err)
 
-module _ (task : Task) (bytes : List ℕ) (inputs : List (List ℕ)) (none : HasNoAnswer task (bytes ∷ inputs)) where
+module _ (task : Task) (can : CanBeDone task) (bytes : List ℕ) (inputs : List (List ℕ)) (none : HasNoAnswer task (bytes ∷ inputs)) where
   none_within : (sheet : Sheet) → IsAccepted (looking task) bytes sheet → ¬ (AreWithin (inputs_of task) inputs)
   none_within sheet accepted within =
-      some_work sheet (grammar_of bytes sheet accepted.scans) (counted bytes sheet accepted.scans.reads) task accepted.suits within (λ status out err work. none (bytes ∷ inputs) [] status out err (sym (append-nil (bytes ∷ inputs))) (work_done accepted within work))
+      some_work sheet (grammar_of bytes sheet accepted.scans) (counted bytes sheet accepted.scans.reads) task can accepted.suits within (λ status out err work. none (bytes ∷ inputs) [] status out err (sym (append-nil (bytes ∷ inputs))) (work_done accepted within work))
 
   none_passed : (sheet : Sheet) → IsAccepted (looking task) bytes sheet → ¬ (HasPassed (inputs_of task) inputs)
   none_passed sheet accepted h =
@@ -84,11 +84,11 @@ module _ (task : Task) (bytes : List ℕ) (inputs : List (List ℕ)) (none : Has
       some_accepted_or_refused bytes (looking task) (none_accepted counted) (λ said refused. none (bytes ∷ []) inputs SheetRefused [] said refl (sheet_refused refused))
 
 pub some_answer : SomeAnswerLaw
-some_answer task [] counted none = absurd (omega (arith, counted))
-some_answer task (bytes ∷ inputs) counted none = refuted task bytes inputs none (omega (arith, counted))
+some_answer task [] can counted none = absurd (omega (arith, counted))
+some_answer task (bytes ∷ inputs) can counted none = refuted task can bytes inputs none (omega (arith, counted))
 
 -- no sample text is refused
 pub load : LoadLaw
-load seed emit inputs status out err (sheet_refused refused) e = cc
-load seed emit inputs status out err (input_too_long accepted passed) e = elim passed [ ]
-load seed emit inputs status out err (work_done {sheet = sheet} accepted within work) e = load_not_refused sheet seed emit work e
+load seed asked inputs status out err (sheet_refused refused) e = cc
+load seed asked inputs status out err (input_too_long accepted passed) e = elim passed [ ]
+load seed asked inputs status out err (work_done {sheet = sheet} accepted within work) e = load_not_refused sheet seed asked work e

@@ -11,8 +11,9 @@ use Rattle.table_data.specs.Tables.{Tables as TableParts}
 use Rattle.grammar_faults.specs.Building.{AreBuiltOf}
 use Rattle.report_theory.specs.TableTexts.{tables_text}
 use Rattle.sample_theory.specs.Samples.{Text}
-use Rattle.run_theory.specs.declared.emit.Emit.{Emit}
-use Rattle.run_theory.specs.RunAnswers.{Given, Refused, IsRunAnswer}
+use Rattle.run_theory.specs.RunAnswers.{Given, Refused}
+use Rattle.tally_theory.specs.declared.asked.Asked.{Asked}
+use Rattle.tally_theory.specs.Asked.{IsAnswerTo}
 use Rattle.answer_theory.specs.declared.status.Status.{Status}
 use Rattle.answer_theory.specs.declared.status.Status.TheVariants.{Done, TextRefused}
 use Rattle.answer_theory.specs.declared.task.Seed.{Seed}
@@ -38,10 +39,10 @@ pub data IsWork (sheet : Sheet) : Task → List (List ℕ) → Status → List �
   tokens_listed : {text listed : List ℕ} → IsListOf sheet text listed → IsWork sheet Tokens (text ∷ []) Done listed []
   layout_printed : {printed : List ℕ} → printed ≡ layout sheet → IsWork sheet Check [] Done printed []
   tables_printed : {printed : List ℕ} → IsTablesText sheet printed → IsWork sheet Tables [] Done printed []
-  run_given : {text given : List ℕ} {emit : Emit} → IsRunAnswer sheet text emit (Given given) → IsWork sheet (Run emit) (text ∷ []) Done given []
-  run_refused : {text said : List ℕ} {emit : Emit} → IsRunAnswer sheet text emit (Refused said) → IsWork sheet (Run emit) (text ∷ []) TextRefused [] said
+  run_given : {text given : List ℕ} {asked : Asked} → IsAnswerTo sheet text asked (Given given) → IsWork sheet (Run asked) (text ∷ []) Done given []
+  run_refused : {text said : List ℕ} {asked : Asked} → IsAnswerTo sheet text asked (Refused said) → IsWork sheet (Run asked) (text ∷ []) TextRefused [] said
   sample_given : {text : List ℕ} {seed : Seed} → IsSampleOf sheet seed (Text text) → IsWork sheet (Gen seed) [] Done text []
   none_given : {said : List ℕ} {status : Status} {seed : Seed} → HasNoSample sheet seed status said → IsWork sheet (Gen seed) [] status [] said
   -- the sample is run as a text that was read
-  sample_loaded : {text out err : List ℕ} {status : Status} {seed : Seed} {emit : Emit} → IsSampleOf sheet seed (Text text) → IsWork sheet (Run emit) (text ∷ []) status out err → IsWork sheet (Load seed emit) [] status out err
-  none_loaded : {said : List ℕ} {status : Status} {seed : Seed} {emit : Emit} → HasNoSample sheet seed status said → IsWork sheet (Load seed emit) [] status [] said
+  sample_loaded : {text out err : List ℕ} {status : Status} {seed : Seed} {asked : Asked} → IsSampleOf sheet seed (Text text) → IsWork sheet (Run asked) (text ∷ []) status out err → IsWork sheet (Load seed asked) [] status out err
+  none_loaded : {said : List ℕ} {status : Status} {seed : Seed} {asked : Asked} → HasNoSample sheet seed status said → IsWork sheet (Load seed asked) [] status [] said

@@ -6,7 +6,7 @@ pub fn one_answer_law()
     ensures { OneAnswerLaw }
 {}
 
-/// Where there are bytes for each name that a task reads, it is refuted that it has no answer.
+/// Where a task can be done and there are bytes for each name that it reads, it is refuted that it has no answer.
 pub fn some_answer_law()
     ensures { SomeAnswerLaw }
 {}

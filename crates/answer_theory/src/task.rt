@@ -1,4 +1,4 @@
-use run_theory::Emit;
+use tally_theory::Asked;
 
 /// What determines a sample text of a sheet: the number from which choices are drawn, and how many are drawn at the most.
 #[derive(Clone, Copy, Debug, PartialEq, Eq)]
@@ -8,7 +8,7 @@ pub struct Seed {
 }
 
 /// What a command asks for, without the names of what it reads.
-#[derive(Clone, Copy, Debug, PartialEq, Eq)]
+#[derive(Debug, Drop)]
 pub enum Task {
     /// The tokens of a text, by a sheet.
     Tokens,
@@ -16,10 +16,10 @@ pub enum Task {
     Check,
     /// The states of a sheet's grammar, with their items and what they do.
     Tables,
-    /// The translation of a text by a sheet, or the names that it declares.
-    Run(Emit),
+    /// What is asked of a text, by a sheet.
+    Run(Asked),
     /// The sample text of a sheet.
     Gen(Seed),
-    /// The translation of the sample text of a sheet, or the names that it declares.
-    Load(Seed, Emit),
+    /// What is asked of the sample text of a sheet.
+    Load(Seed, Asked),
 }

@@ -7,7 +7,7 @@ use Rattle.clap.specs.declared.ArgMatches.{ArgMatches}
 use Rattle.clap.proofs.WalkLemmas.{first_value-rows}
 use Rattle.word_theory.specs.declared.command_name.CommandName.{CommandName}
 use Rattle.word_theory.specs.declared.command_name.CommandName.TheVariants.{Tokens, Check, Tables, Run, Gen, Load}
-use Rattle.word_theory.specs.Arguments.{app_of, emit_id, faults_in, from_id, IsTaken, sheet_id, size_id, text_id, told_in}
+use Rattle.word_theory.specs.Arguments.{app_of, at_id, cut_id, emit_id, faults_in, from_id, IsTaken, sheet_id, size_id, text_id, told_in, workers_id}
 
 -- the matches and the faults of each command are functions of the words
 simple_and_free : (name : CommandName) → is_simple_and_free (app_of name) ≡ true
@@ -48,8 +48,8 @@ module _ (name : CommandName) (words : List (List ℕ)) (matches : ArgMatches) (
   value_is : (id : List ℕ) (value : Option (List ℕ)) → value ≡ first_value (found_of matches) id → value ≡ first_of id (matches_of (app_of name) words)
   value_is id value e = e ∙ first_value-rows (found_of matches) id ∙ ap (first_of id) rows
 
-  pub told_by : (sheet text emit from size : Option (List ℕ)) → sheet ≡ first_value (found_of matches) sheet_id → text ≡ first_value (found_of matches) text_id → emit ≡ first_value (found_of matches) emit_id → from ≡ first_value (found_of matches) from_id → size ≡ first_value (found_of matches) size_id
-      → record { sheet = sheet; text = text; emit = emit; from = from; size = size } ≡ told_in name words
+  pub told_by : (sheet text emit workers cut at from size : Option (List ℕ)) → sheet ≡ first_value (found_of matches) sheet_id → text ≡ first_value (found_of matches) text_id → emit ≡ first_value (found_of matches) emit_id → workers ≡ first_value (found_of matches) workers_id → cut ≡ first_value (found_of matches) cut_id → at ≡ first_value (found_of matches) at_id → from ≡ first_value (found_of matches) from_id → size ≡ first_value (found_of matches) size_id
+      → record { sheet = sheet; text = text; emit = emit; workers = workers; cut = cut; at = at; from = from; size = size } ≡ told_in name words
   unfolding told_in
-  told_by sheet text emit from size p q r s t =
-      λ i. record { sheet = value_is sheet_id sheet p i; text = value_is text_id text q i; emit = value_is emit_id emit r i; from = value_is from_id from s i; size = value_is size_id size t i }
+  told_by sheet text emit workers cut at from size p q r w u v s t =
+      λ i. record { sheet = value_is sheet_id sheet p i; text = value_is text_id text q i; emit = value_is emit_id emit r i; workers = value_is workers_id workers w i; cut = value_is cut_id cut u i; at = value_is at_id at v i; from = value_is from_id from s i; size = value_is size_id size t i }

@@ -1,1 +1,3 @@
 pub mod ClapLemmas
+pub mod CommaLemmas
+pub mod AskingLemmas

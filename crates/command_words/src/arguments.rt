@@ -1,7 +1,7 @@
 //! What each command takes, read by the crate `clap`.
 ghost use Rattle.std.specs.Prelude.{◌≡◌, ◌≢◌, false, true, [], ◌∷◌, map, string_bytes, IfErr, IfOk};
 ghost use Rattle.clap.specs.Words.{app_of, found_of, rule_of, rows_of, matches_of};
-ghost use Rattle.word_theory.specs.Arguments.{IsTaken, app_of as app_for, option as option_rule, position as position_rule, sheet_id, taking, told_in};
+ghost use Rattle.word_theory.specs.Arguments.{IsTaken, app_of as app_for, at_id, cut_id, emit_id, option as option_rule, position as position_rule, sheet_id, taking, text_id, told_in, word_of, workers_id};
 ghost use Rattle.command_words.specs.Commands.{told_of};
 
 use crate::fault::WordFault;
@@ -16,6 +16,9 @@ pub struct Values<'a> {
     pub sheet: Option<&'a str>,
     pub text: Option<&'a str>,
     pub emit: Option<&'a str>,
+    pub workers: Option<&'a str>,
+    pub cut: Option<&'a str>,
+    pub at: Option<&'a str>,
     pub from: Option<&'a str>,
     pub size: Option<&'a str>,
 }
@@ -52,12 +55,23 @@ fn of_tokens<'a>(alloc: Global) -> Result<Command<'a>, AllocError>
     over_sheet(alloc, "tokens")?.arg(position(alloc, "TEXT"))
 }
 
-fn of_run<'a>(alloc: Global) -> Result<Command<'a>, AllocError>
-    ensures { IfOk result (λ command. app_of command ≡ app_for CommandName.Run) }
+/// What `run` takes, but for how its text is parsed.
+fn of_wanted_run<'a>(alloc: Global) -> Result<Command<'a>, AllocError>
+    ensures { IfOk result (λ command. app_of command ≡ taking (word_of CommandName.Run)
+        (position_rule sheet_id ∷ position_rule text_id ∷ option_rule emit_id false ∷ [])) }
 {
     over_sheet(alloc, "run")?
         .arg(position(alloc, "TEXT"))?
         .arg(option(alloc, "emit", false))
+}
+
+fn of_run<'a>(alloc: Global) -> Result<Command<'a>, AllocError>
+    ensures { IfOk result (λ command. app_of command ≡ app_for CommandName.Run) }
+{
+    of_wanted_run(alloc)?
+        .arg(option(alloc, "workers", false))?
+        .arg(option(alloc, "cut", false))?
+        .arg(option(alloc, "at", false))
 }
 
 fn of_gen<'a>(alloc: Global) -> Result<Command<'a>, AllocError>
@@ -68,11 +82,22 @@ fn of_gen<'a>(alloc: Global) -> Result<Command<'a>, AllocError>
         .arg(option(alloc, "size", true))
 }
 
-fn of_load<'a>(alloc: Global) -> Result<Command<'a>, AllocError>
-    ensures { IfOk result (λ command. app_of command ≡ app_for CommandName.Load) }
+/// What `load` takes of what `run` takes.
+fn of_loaded_run<'a>(alloc: Global) -> Result<Command<'a>, AllocError>
+    ensures { IfOk result (λ command. app_of command ≡ taking (word_of CommandName.Load)
+        (position_rule sheet_id ∷ option_rule emit_id false ∷ option_rule workers_id false ∷ option_rule cut_id false ∷ option_rule at_id false ∷ [])) }
 {
     over_sheet(alloc, "load")?
         .arg(option(alloc, "emit", false))?
+        .arg(option(alloc, "workers", false))?
+        .arg(option(alloc, "cut", false))?
+        .arg(option(alloc, "at", false))
+}
+
+fn of_load<'a>(alloc: Global) -> Result<Command<'a>, AllocError>
+    ensures { IfOk result (λ command. app_of command ≡ app_for CommandName.Load) }
+{
+    of_loaded_run(alloc)?
         .arg(option(alloc, "from", true))?
         .arg(option(alloc, "size", true))
 }
@@ -126,6 +151,9 @@ pub fn values_told<'a>(
         sheet: matches.get_str("SHEET"),
         text: matches.get_str("TEXT"),
         emit: matches.get_str("emit"),
+        workers: matches.get_str("workers"),
+        cut: matches.get_str("cut"),
+        at: matches.get_str("at"),
         from: matches.get_str("from"),
         size: matches.get_str("size"),
     })

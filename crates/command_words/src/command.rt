@@ -1,8 +1,8 @@
+use crate::options::RunOptions;
 use answer_theory::Seed;
-use run_theory::Emit;
 
-/// What the words ask for: a task, with the names of what it reads.
-#[derive(Clone, Copy, Debug)]
+/// What the words ask for: a task, with the names of what it reads and, where a text is parsed, the options of its parse.
+#[derive(Debug, Drop)]
 pub enum Command<'a> {
     Tokens {
         sheet: &'a str,
@@ -15,7 +15,7 @@ pub enum Command<'a> {
         sheet: &'a str,
     },
     Run {
-        emit: Emit,
+        options: RunOptions,
         sheet: &'a str,
         text: &'a str,
     },
@@ -25,7 +25,7 @@ pub enum Command<'a> {
     },
     Load {
         seed: Seed,
-        emit: Emit,
+        options: RunOptions,
         sheet: &'a str,
     },
 }

@@ -1,26 +1,30 @@
 //! What the values of options say.
-ghost use Rattle.std.specs.Prelude.{◌≡◌, ℕ, option_map, MatchOption};
+ghost use Rattle.std.specs.Prelude.{◌≡◌, ℕ, Some, option_map, MatchOption};
 ghost use Rattle.std.specs.Char.{is_ascii_digit};
 ghost use Rattle.std.specs.List.{list_all};
 ghost use Rattle.std.specs.Str.Parse.{digits_value};
-ghost use Rattle.run_theory.specs.declared.emit.Emit.{Emit};
+ghost use Rattle.tally_theory.specs.declared.asked.Asked.{Asked};
+ghost use Rattle.tally_theory.specs.declared.cut.Cut.{Cut};
 ghost use Rattle.answer_theory.specs.declared.task.Seed.{Seed};
-ghost use Rattle.word_theory.specs.Values.{IsEmitBy, IsNumberBy, IsNumberWord, IsSeedBy};
+ghost use Rattle.word_theory.specs.Values.{IsAskedBy, IsNumberBy, IsNumberWord, IsSeedBy, IsWorkersBy};
+ghost use Rattle.command_words.specs.Commands.{asked_of};
 
+use crate::options::Want;
 use answer_theory::Seed;
 use run_theory::Emit;
-use word_theory::{NUMBER_DIGITS, SAMPLE_SIZE};
+use word_theory::{NUMBER_DIGITS, SAMPLE_SIZE, USUAL_WORKERS, WORKERS_LIMIT};
 
-/// What is to be given of a text, by the value of its option.
-pub fn emit_by(value: Option<&str>) -> Option<Emit>
+/// What is wanted of a text, by the value of an option.
+pub fn want_by(value: Option<&str>) -> Option<Want>
     ensures { MatchOption result
-        ((emit : Emit) → ¬ (IsEmitBy (option_map (λ s. s.now) value.entry) emit))
-        (λ emit. IsEmitBy (option_map (λ s. s.now) value.entry) emit) }
+        ((cut : Cut) (asked : Asked) → ¬ (IsAskedBy (option_map (λ s. s.now) value.entry) cut asked))
+        (λ want. (cut : Cut) → IsAskedBy (option_map (λ s. s.now) value.entry) cut (asked_of want cut)) }
 {
     match value {
-        None => Some(Emit::Output),
-        Some("output") => Some(Emit::Output),
-        Some("names") => Some(Emit::Names),
+        None => Some(Want::Text(Emit::Output)),
+        Some("output") => Some(Want::Text(Emit::Output)),
+        Some("names") => Some(Want::Text(Emit::Names)),
+        Some("report") => Some(Want::Report),
         Some(_) => None,
     }
 }
@@ -32,7 +36,7 @@ fn are_digits(bytes: &[u8]) -> bool
 }
 
 /// The number that a word of one to nine digits is.
-fn number_of(word: &str) -> Option<u32>
+pub fn number_of(word: &str) -> Option<u32>
     ensures { MatchOption result (¬ (IsNumberWord word.now)) (λ n. IsNumberWord word.now × (n ≡ digits_value 10 word.now)) }
 {
     if word.is_empty() || word.len() > NUMBER_DIGITS {
@@ -51,6 +55,31 @@ fn number_by(value: Option<&str>) -> Option<u32>
         (λ n. IsNumberBy (option_map (λ s. s.now) value.entry) n) }
 {
     number_of(value?)
+}
+
+/// So many workers as a word says.
+fn told_workers(word: &str) -> Option<u32>
+    ensures { MatchOption result
+        ((workers : ℕ) → ¬ (IsWorkersBy (Some word.now) workers))
+        (λ workers. IsWorkersBy (Some word.now) workers) }
+{
+    let workers = number_of(word)?;
+    if workers == 0 || workers > WORKERS_LIMIT {
+        return None;
+    }
+    Some(workers)
+}
+
+/// How many workers parse a text, by the value of an option: from 1 to 64, and 4 where it isn't told.
+pub fn workers_by(value: Option<&str>) -> Option<u32>
+    ensures { MatchOption result
+        ((workers : ℕ) → ¬ (IsWorkersBy (option_map (λ s. s.now) value.entry) workers))
+        (λ workers. IsWorkersBy (option_map (λ s. s.now) value.entry) workers) }
+{
+    match value {
+        None => Some(USUAL_WORKERS),
+        Some(word) => told_workers(word),
+    }
 }
 
 /// The seed of a sample text, by the values of its options.

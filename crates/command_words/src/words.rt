@@ -2,7 +2,7 @@ ghost use Rattle.std.specs.Prelude.{◌≡◌, ◌≢◌, map, string_bytes, IfE
 ghost use Rattle.word_theory.specs.declared.command_name.CommandName.{CommandName};
 ghost use Rattle.word_theory.specs.Arguments.{word_of};
 ghost use Rattle.word_theory.specs.Words.{HasForm, IsBadWords};
-ghost use Rattle.command_words.specs.Commands.{names_of, task_of};
+ghost use Rattle.command_words.specs.Commands.{CanBeRun, SayParse, names_of, task_of};
 
 use crate::arguments::values_told;
 use crate::asking::asked;
@@ -26,13 +26,16 @@ fn name_of(word: &str) -> Option<CommandName>
     }
 }
 
-/// What the words ask for. `BadWords` comes exactly where they are of no form, unless memory runs out.
+/// What the words ask for; where a text is parsed, with the cutting and the workers that they say, or the usual ones.
+/// `BadWords` comes exactly where they are of no form, unless memory runs out.
 pub fn command_of(alloc: Global, words: &[String]) -> Result<Command<'_>, WordFault>
     ensures form { IfOk result (λ command. HasForm (map string_bytes words.entry.now) (task_of command) (names_of command)) }
+    ensures parse { IfOk result (SayParse (map string_bytes words.entry.now)) }
+    ensures can { IfOk result CanBeRun }
     ensures fault { IfErr result (λ fault. fault ≡ WordFault.BadWords → IsBadWords (map string_bytes words.entry.now)) }
 {
     let (word, rest) = words.split_first().ok_or(WordFault::BadWords)?;
     let name = name_of(word).ok_or(WordFault::BadWords)?;
     let values = values_told(alloc, name, rest)?;
-    asked(name, values).ok_or(WordFault::BadWords)
+    asked(alloc, name, values)
 }

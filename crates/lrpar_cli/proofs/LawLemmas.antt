@@ -15,7 +15,7 @@ use Rattle.answer_theory.specs.Tasks.{inputs_of}
 use Rattle.answer_theory.specs.Work.{IsWork, tokens_listed, layout_printed, tables_printed, run_given, run_refused, sample_given, none_given, sample_loaded, none_loaded}
 use Rattle.answer_theory.specs.Answers.{Answers, sheet_refused, input_too_long, work_done, IsPassed, passed_here, passed_later}
 use Rattle.answer_theory.proofs.AnswerLemmas.{answer_once, load}
-use Rattle.run_theory.specs.declared.emit.Emit.{Emit}
+use Rattle.tally_theory.specs.declared.asked.Asked.{Asked}
 use Rattle.word_theory.specs.Words.{HasForm, IsBadWords}
 use Rattle.lrpar_cli.specs.Endings.{Outside, AreRead, none_read, one_read, IsDue, IsUnread, ComesOut, answered, unread, unwritten, spent, said_whole, said_in_part, IsEnding, with_bad_words, without_memory, with_task}
 use Rattle.lrpar_cli.specs.Laws.{OneDueLaw, CompleteLaw, ServedLaw, RoomLaw, LoadedLaw, bad_words_answered, task_answered, AreServed, Fits}
@@ -80,10 +80,10 @@ passed_status Tokens (passed_here long) = answer_long
 passed_status Tokens (passed_later short passed) = elim passed [ ]
 passed_status Check passed = elim passed [ ]
 passed_status Tables passed = elim passed [ ]
-passed_status (Run emit) (passed_here long) = answer_long
-passed_status (Run emit) (passed_later short passed) = elim passed [ ]
+passed_status (Run asked) (passed_here long) = answer_long
+passed_status (Run asked) (passed_later short passed) = elim passed [ ]
 passed_status (Gen seed) passed = elim passed [ ]
-passed_status (Load seed emit) passed = elim passed [ ]
+passed_status (Load seed asked) passed = elim passed [ ]
 
 none_status : {sheet : Sheet} {seed : Seed} {status : Status} {said : List ℕ} → HasNoSample sheet seed status said → IsAnswer status
 none_status (without_word none) = record { read = λ e. cc; written = λ e. cc; given = λ e. cc }
@@ -180,16 +180,16 @@ ends_bad words before after status (with_task form (spent memory) (said_in_part 
 
 -- ---- sample texts
 
-sample_comes : {seed : Seed} {emit : Emit} {names : List (List ℕ)} {before after : ShelfSeen} {out_before out_after : SinkSeen} {said : List ℕ} {status : Status} → ComesOut (Load seed emit) names before after out_before out_after said status → status ≢ TextRefused
-sample_comes {seed} {emit} (answered {status = status} {out = out} {err = err} due read takes) e = load seed emit due.inputs status out err due.answers e
+sample_comes : {seed : Seed} {asked : Asked} {names : List (List ℕ)} {before after : ShelfSeen} {out_before out_after : SinkSeen} {said : List ℕ} {status : Status} → ComesOut (Load seed asked) names before after out_before out_after said status → status ≢ TextRefused
+sample_comes {seed} {asked} (answered {status = status} {out = out} {err = err} due read takes) e = load seed asked due.inputs status out err due.answers e
 sample_comes (unread fault takes) e = cc
 sample_comes (unwritten due read fails) e = cc
 sample_comes (spent memory) e = cc
 
 pub loaded : LoadedLaw
-loaded words names seed emit before after status (with_bad_words bad read takes said) form e = bad (Load seed emit) names form
-loaded words names seed emit before after status (without_memory read takes none) form e = cc
-loaded words names seed emit before after status (with_task {task = task} {names = others} {said = said} other comes (said_whole taken)) form e =
-    let tasks : task ≡ Load seed emit = (form_once words others names task (Load seed emit) other form).0 in
+loaded words names seed asked before after status (with_bad_words bad read takes said) form e = bad (Load seed asked) names form
+loaded words names seed asked before after status (without_memory read takes none) form e = cc
+loaded words names seed asked before after status (with_task {task = task} {names = others} {said = said} other comes (said_whole taken)) form e =
+    let tasks : task ≡ Load seed asked = (form_once words others names task (Load seed asked) other form).0 in
     sample_comes (subst (λ t. ComesOut t others before.shelf after.shelf before.out after.out said status) tasks comes) e
-loaded words names seed emit before after status (with_task other comes (said_in_part fails)) form e = cc
+loaded words names seed asked before after status (with_task other comes (said_in_part fails)) form e = cc

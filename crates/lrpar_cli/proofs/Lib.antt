@@ -5,3 +5,5 @@ pub mod OutputLemmas
 pub mod EndLemmas
 pub mod TranslatingLemmas
 pub mod SampleLemmas
+pub mod ReportingLemmas
+pub mod SegmentLemmas

@@ -8,7 +8,7 @@ use Rattle.writing_theory.specs.declared.fault.WriteFault.{WriteFault}
 use Rattle.sheet_data.specs.Sheet.{Sheet}
 use Rattle.answer_theory.specs.declared.status.Status.{Status}
 use Rattle.answer_theory.specs.declared.status.Status.TheVariants.{Done, TextRefused, NoMemory as out_of_memory}
-use Rattle.run_theory.specs.declared.emit.Emit.{Emit}
+use Rattle.tally_theory.specs.declared.asked.Asked.{Asked}
 use Rattle.answer_theory.specs.declared.task.Task.{Task}
 use Rattle.answer_theory.specs.declared.task.Task.TheVariants.{Run}
 use Rattle.answer_theory.specs.declared.task.Seed.{Seed}
@@ -212,10 +212,10 @@ module _ (before after : ShelfSeen) (out_before out_after : SinkSeen) (task : Ta
   stops_at_sample seed works Spent is takes = spent_alone takes
 
   -- or at what its sample is
-  pub stops_at_tree : (text : List ℕ) → ((said : List ℕ) → ((emit : Emit) → IsWork sheet (Run emit) (text ∷ []) TextRefused [] said) → IsWork sheet task [] TextRefused [] said) → (stop : Stop) → IsTextStop sheet text stop → Takes out_before out_after []
+  pub stops_at_tree : (text : List ℕ) → ((said : List ℕ) → ((asked : Asked) → IsWork sheet (Run asked) (text ∷ []) TextRefused [] said) → IsWork sheet task [] TextRefused [] said) → (stop : Stop) → IsTextStop sheet text stop → Takes out_before out_after []
       → ComesOut task (name ∷ []) before after out_before out_after (said_of (Err stop)) (status_of (Err stop))
   stops_at_tree text works (Due status said) is takes =
-      subst (λ s. ComesOut task (name ∷ []) before after out_before out_after said s) (sym is.0) (due_alone TextRefused said (works said (λ emit. run_refused (is.1 emit))) takes)
+      subst (λ s. ComesOut task (name ∷ []) before after out_before out_after said s) (sym is.0) (due_alone TextRefused said (works said (λ asked. run_refused (is.1 asked))) takes)
   stops_at_tree text works Unread is takes = absurd is
   stops_at_tree text works Unwritten is takes = absurd is
   stops_at_tree text works Spent is takes = spent_alone takes
@@ -227,12 +227,12 @@ comes_at task names before after out_before out_after (Ok done) stop same comes 
 comes_at task names before after out_before out_after (Err x) stop same comes = subst (λ y. ComesOut task names before after out_before out_after (said_of (Err y)) (status_of (Err y))) (sym same) comes
 
 -- a run stops at what its text is
-module _ (before now after : ShelfSeen) (out_before out_after : SinkSeen) (emit : Emit) (name text_name : List ℕ) (sheet : Sheet) (has : HasSheet for_parsing before name sheet) (read_failed : Type 0) (read : ReadsName before now name read_failed) (fine : ¬ read_failed) (same : IsSameShelf before now)
+module _ (before now after : ShelfSeen) (out_before out_after : SinkSeen) (asked : Asked) (name text_name : List ℕ) (sheet : Sheet) (has : HasSheet for_parsing before name sheet) (read_failed : Type 0) (read : ReadsName before now name read_failed) (fine : ¬ read_failed) (same : IsSameShelf before now)
     (text : List ℕ) (input : HasInput text_input now text_name text) (failed : Type 0) (reads : ReadsName now after text_name failed) (fine_text : ¬ failed) where
-  pub stops_at_parse : (stop : Stop) → IsTextStop sheet text stop → Takes out_before out_after [] → ComesOut (Run emit) (name ∷ text_name ∷ []) before after out_before out_after (said_of (Err stop)) (status_of (Err stop))
+  pub stops_at_parse : (stop : Stop) → IsTextStop sheet text stop → Takes out_before out_after [] → ComesOut (Run asked) (name ∷ text_name ∷ []) before after out_before out_after (said_of (Err stop)) (status_of (Err stop))
   stops_at_parse (Due status said) is takes =
-      subst (λ s. ComesOut (Run emit) (name ∷ text_name ∷ []) before after out_before out_after said s) (sym is.0)
-      (text_due (Run emit) refl before now after out_before out_after name text_name sheet has read_failed read fine same text input failed reads fine_text TextRefused said (run_refused (is.1 emit)) takes)
+      subst (λ s. ComesOut (Run asked) (name ∷ text_name ∷ []) before after out_before out_after said s) (sym is.0)
+      (text_due (Run asked) refl before now after out_before out_after name text_name sheet has read_failed read fine same text input failed reads fine_text TextRefused said (run_refused (is.1 asked)) takes)
   stops_at_parse Unread is takes = absurd is
   stops_at_parse Unwritten is takes = absurd is
-  stops_at_parse Spent is takes = text_spent (Run emit) refl before now after out_before out_after name text_name sheet has read_failed read fine same text input failed reads fine_text takes
+  stops_at_parse Spent is takes = text_spent (Run asked) refl before now after out_before out_after name text_name sheet has read_failed read fine same text input failed reads fine_text takes

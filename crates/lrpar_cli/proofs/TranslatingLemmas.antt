@@ -10,7 +10,8 @@ use Rattle.sheet_theory.specs.ScanOrder.{scanning_of}
 use Rattle.table_data.specs.Tables.{Tables}
 use Rattle.lawful_theory.specs.Lawful.{IsLawfulFor}
 use Rattle.lr_machine.specs.Expected.{AreExpectedIn}
-use Rattle.plain_parse.specs.Parses.{AreTextTokens, IsTreeOf, IsWrongOf}
+use Rattle.plain_parse.specs.Parses.{AreTextTokens, IsWrongOf}
+use Rattle.segment_runs.specs.Runs.{IsTreeIn}
 use Rattle.node_store.specs.Chunks.{store_of}
 use Rattle.finished_theory.specs.FinishedTrees.{IsFinished}
 use Rattle.finished_theory.proofs.FinishedLemmas.{finished}
@@ -22,6 +23,10 @@ use Rattle.run_theory.specs.declared.emit.Emit.TheVariants.{Output, Names}
 use Rattle.run_theory.specs.RunAnswers.{Given, Refused, IsRunAnswer, tree_given, text_refused}
 use Rattle.run_theory.specs.SheetTokens.{CountsTokens}
 use Rattle.run_theory.proofs.TokenLemmas.{sheet_tokens}
+use Rattle.tally_theory.specs.declared.asked.Asked.{Asked}
+use Rattle.tally_theory.specs.declared.asked.Asked.TheVariants.{Text, Report}
+use Rattle.tally_theory.specs.Asked.{IsAnswerTo}
+use Rattle.tally_theory.proofs.ReportLemmas.{refused as report_refused}
 use Rattle.answer_theory.specs.declared.status.Status.TheVariants.{TextRefused}
 use Rattle.lrpar_cli.specs.declared.stop.Stop.{Stop}
 use Rattle.lrpar_cli.specs.Stops.{IsDueStop}
@@ -68,13 +73,18 @@ refused_by sheet t text tokens index state line id token expected lawful are wro
       is = ap (λ l. unexpected_text sheet l id expected) place ∙ ap (λ n. unexpected_text sheet (line_of text (slice_get tokens index)) n expected) number;
     })
 
+-- whatever is asked of it
+refused_so : (sheet : Sheet) (text said : List ℕ) → ((emit : Emit) → IsRunAnswer sheet text emit (Refused said)) → (asked : Asked) → IsAnswerTo sheet text asked (Refused said)
+refused_so sheet text said refused (Text emit) = refused emit
+refused_so sheet text said refused (Report cut) = (report_refused sheet text cut Output said).1 (refused Output)
+
 -- so a stop at which this is due is one of the text
 pub stop_of : (sheet : Sheet) (text said : List ℕ) (stop : Stop) → IsDueStop TextRefused said stop → ((emit : Emit) → IsRunAnswer sheet text emit (Refused said)) → IsTextStop sheet text stop
-stop_of sheet text said stop (inl e) refused = subst (IsTextStop sheet text) (sym e) (refl, refused)
+stop_of sheet text said stop (inl e) refused = subst (IsTextStop sheet text) (sym e) (refl, λ asked. refused_so sheet text said refused asked)
 stop_of sheet text said stop (inr e) refused = subst (IsTextStop sheet text) (sym e) tt
 
 -- the tree of an accepted text
-pub tree_of : (sheet : Sheet) (text : List ℕ) (tokens : List TextToken) (found : TextTree) → AreTokens (scanning_of sheet) text tokens → IsTreeOf sheet.grammar tokens found.root found.store → HasTextTree sheet text found
+pub tree_of : (sheet : Sheet) (text : List ℕ) (tokens : List TextToken) (found : TextTree) → AreTokens (scanning_of sheet) text tokens → IsTreeIn sheet.grammar tokens found.root found.store → HasTextTree sheet text found
 tree_of sheet text tokens found are is = record {
   tree = is.tree;
   of_text = record { of_start = is.is_tree; tokens = subst (AreTokens (scanning_of sheet) text) (sym is.yields) are };

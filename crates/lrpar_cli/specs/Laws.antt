@@ -3,7 +3,7 @@ use Rattle.std.specs.Prelude.{◌≡◌, ◌≢◌, ℕ, ◌+◌, ◌<◌, ◌�
 use Rattle.lr_base.specs.Outside.{ShelfSeen, SinkSeen, Rose, Takes, is_listed}
 use Rattle.answer_theory.specs.declared.status.Status.{Status}
 use Rattle.answer_theory.specs.declared.status.Status.TheVariants.{TextRefused, BadWords, ReadFault, WriteFault, NoMemory}
-use Rattle.run_theory.specs.declared.emit.Emit.{Emit}
+use Rattle.tally_theory.specs.declared.asked.Asked.{Asked}
 use Rattle.answer_theory.specs.declared.task.Seed.{Seed}
 use Rattle.answer_theory.specs.declared.task.Task.{Task}
 use Rattle.answer_theory.specs.declared.task.Task.TheVariants.{Load}
@@ -57,4 +57,4 @@ RoomLaw = (words : List (List ℕ)) (before after : Outside) (status : Status) �
 
 -- a sample text is never refused
 abbrev pub LoadedLaw : Type 0
-LoadedLaw = (words names : List (List ℕ)) (seed : Seed) (emit : Emit) (before after : Outside) (status : Status) → IsEnding words before after status → HasForm words (Load seed emit) names → status ≢ TextRefused
+LoadedLaw = (words names : List (List ℕ)) (seed : Seed) (asked : Asked) (before after : Outside) (status : Status) → IsEnding words before after status → HasForm words (Load seed asked) names → status ≢ TextRefused

@@ -7,8 +7,9 @@ use Rattle.table_data.specs.Tables.{Tables}
 use Rattle.tree_theory.specs.Stores.{Ref, Shows}
 use Rattle.node_store.specs.Chunks.{store_of}
 use Rattle.sheet_data.specs.Sheet.{Sheet}
-use Rattle.run_theory.specs.declared.emit.Emit.{Emit}
-use Rattle.run_theory.specs.RunAnswers.{Refused, IsTreeOf, IsRunAnswer}
+use Rattle.run_theory.specs.RunAnswers.{Refused, IsTreeOf}
+use Rattle.tally_theory.specs.declared.asked.Asked.{Asked}
+use Rattle.tally_theory.specs.Asked.{IsAnswerTo}
 use Rattle.answer_theory.specs.declared.status.Status.TheVariants.{TextRefused}
 use Rattle.lrpar_cli.specs.declared.translating.TextTree.{TextTree}
 use Rattle.lrpar_cli.specs.declared.stop.Stop.{Stop}
@@ -22,7 +23,7 @@ pub record HasTextTree (sheet : Sheet) (text : List ℕ) (found : TextTree) : Ty
 
 -- why a text has no tree: it is refused, whatever is asked for, and this is said of it; or memory ran out
 abbrev pub IsTextStop : Sheet → List ℕ → Stop → Type 0
-IsTextStop sheet text (Due status said) = (status ≡ TextRefused) × ((emit : Emit) → IsRunAnswer sheet text emit (Refused said))
+IsTextStop sheet text (Due status said) = (status ≡ TextRefused) × ((asked : Asked) → IsAnswerTo sheet text asked (Refused said))
 IsTextStop sheet text Unread = ⊥
 IsTextStop sheet text Unwritten = ⊥
 IsTextStop sheet text Spent = Unit {0}

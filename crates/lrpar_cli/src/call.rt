@@ -20,9 +20,10 @@ const BAD_WORDS: &[u8] = b"bad words\n";
 /// the names of its command it begins a first part, in order, and no others, and no more than the answer needs. Where
 /// the words are of no form, nothing is begun or read and the output isn't touched, also where memory runs out over them; no
 /// other call ends with bad words. An answer
-/// that isn't on the output leaves that untouched. `rt` and `gate` are not used yet.
+/// that isn't on the output leaves that untouched. A text is parsed in segments by
+/// workers of `rt`; what is written tells nothing of the workers, and of the segments only what a report counts. `gate` is not used yet.
 pub fn lrpar<R: Threads + Sync, S: Shelf, O: Sink, E: Sink, G: Gate + Sync>(
-    _rt: &R,
+    rt: &R,
     alloc: Global,
     words: &[String],
     shelf: &mut S,
@@ -45,7 +46,7 @@ pub fn lrpar<R: Threads + Sync, S: Shelf, O: Sink, E: Sink, G: Gate + Sync>(
     ensures silent { (result ≡ Status.Done) ⊎ (result ≡ Status.NoMemory) → err.new ≡ err.old }
 {
     match command_of(alloc, words) {
-        Ok(command) => end(err, run(alloc, command, shelf, out)),
+        Ok(command) => end(err, run(rt, alloc, command, shelf, out)),
         Err(WordFault::BadWords) => say(err, BAD_WORDS, Status::BadWords),
         Err(WordFault::NoMemory) => Status::NoMemory,
     }

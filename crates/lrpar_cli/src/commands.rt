@@ -1,20 +1,21 @@
 ghost use Rattle.std.specs.Prelude.{◌≡◌, [], ◌∷◌};
 ghost use Rattle.lr_base.specs.Outside.{IsSameShelf, IsSameSink};
 ghost use Rattle.answer_theory.specs.declared.task.Task.TheVariants.{Run, Gen, Load};
-ghost use Rattle.command_words.specs.Commands.{names_of, task_of};
+ghost use Rattle.command_words.specs.Commands.{CanParse, CanBeRun, asked_of, names_of, task_of};
 ghost use Rattle.lrpar_cli.specs.Endings.{ComesOut};
 ghost use Rattle.lrpar_cli.specs.Stops.{StopsEarly, said_of, status_of};
 
 use crate::inputs::{read_parsing, read_scanned, read_text};
 use crate::outputs::{write_layout, write_states, write_text, write_tokens};
+use crate::reporting::write_asked;
 use crate::samples::make_sample;
 use crate::stop::Stop;
-use crate::translating::{parse_text, write_tree};
+use crate::translating::parse_text;
 use answer_theory::{Seed, Task};
-use command_words::Command;
+use command_words::{Command, RunOptions};
 use lr_base::{Shelf, Sink};
-use run_theory::Emit;
 use std::alloc::Global;
+use std::thread::Threads;
 
 /// `tokens SHEET TEXT`: reads the sheet and then the text, and writes the text's token list.
 fn list_tokens<S: Shelf, O: Sink>(
@@ -66,23 +67,25 @@ fn print_tables<S: Shelf, O: Sink>(
     Ok(())
 }
 
-/// `run SHEET TEXT`: reads the sheet and then the text, and writes its translation, or the names that it declares.
-fn translate_text<S: Shelf, O: Sink>(
+/// `run SHEET TEXT`: reads the sheet and then the text, parses the text in segments, and writes what is asked of it.
+fn translate_text<R: Threads + Sync, S: Shelf, O: Sink>(
+    rt: &R,
     alloc: Global,
-    emit: Emit,
+    options: &RunOptions,
     sheet: &str,
     text: &str,
     shelf: &mut S,
     out: &mut O,
 ) -> Result<(), Stop>
-    ensures comes { ComesOut (Run emit) (sheet.now ∷ text.now ∷ []) (S.seen shelf.old) (S.seen shelf.new) (O.seen out.old) (O.seen out.new) (said_of result) (status_of result) }
+    requires { CanParse options.now }
+    ensures comes { ComesOut (Run (asked_of options.now.want options.now.cut)) (sheet.now ∷ text.now ∷ []) (S.seen shelf.old) (S.seen shelf.new) (O.seen out.old) (O.seen out.new) (said_of result) (status_of result) }
     ensures stays { IsSameShelf (S.seen shelf.old) (S.seen shelf.new) × IsSameSink (O.seen out.old) (O.seen out.new) }
     ensures early { StopsEarly result → out.new ≡ out.old }
 {
     let parsing = read_parsing(alloc, shelf, sheet)?;
     let text = read_text(alloc, shelf, text)?;
-    let tree = parse_text(alloc, &parsing, &text)?;
-    write_tree(alloc, emit, &parsing, &text, &tree, out)?;
+    let tree = parse_text(rt, alloc, options, &parsing, &text)?;
+    write_asked(alloc, options, &parsing, &text, &tree, out)?;
     Ok(())
 }
 
@@ -104,33 +107,37 @@ fn give_sample<S: Shelf, O: Sink>(
     Ok(())
 }
 
-/// `load SHEET`: reads the sheet, and writes the translation of its sample text, or the names that this declares.
-fn translate_sample<S: Shelf, O: Sink>(
+/// `load SHEET`: reads the sheet, parses its sample text in segments, and writes what is asked of it.
+fn translate_sample<R: Threads + Sync, S: Shelf, O: Sink>(
+    rt: &R,
     alloc: Global,
     seed: Seed,
-    emit: Emit,
+    options: &RunOptions,
     sheet: &str,
     shelf: &mut S,
     out: &mut O,
 ) -> Result<(), Stop>
-    ensures comes { ComesOut (Load seed emit) (sheet.now ∷ []) (S.seen shelf.old) (S.seen shelf.new) (O.seen out.old) (O.seen out.new) (said_of result) (status_of result) }
+    requires { CanParse options.now }
+    ensures comes { ComesOut (Load seed (asked_of options.now.want options.now.cut)) (sheet.now ∷ []) (S.seen shelf.old) (S.seen shelf.new) (O.seen out.old) (O.seen out.new) (said_of result) (status_of result) }
     ensures stays { IsSameShelf (S.seen shelf.old) (S.seen shelf.new) × IsSameSink (O.seen out.old) (O.seen out.new) }
     ensures early { StopsEarly result → out.new ≡ out.old }
 {
     let parsing = read_parsing(alloc, shelf, sheet)?;
     let text = make_sample(alloc, &parsing, seed)?;
-    let tree = parse_text(alloc, &parsing, &text)?;
-    write_tree(alloc, emit, &parsing, &text, &tree, out)?;
+    let tree = parse_text(rt, alloc, options, &parsing, &text)?;
+    write_asked(alloc, options, &parsing, &text, &tree, out)?;
     Ok(())
 }
 
 /// Does what a command asks for.
-pub fn run<S: Shelf, O: Sink>(
+pub fn run<R: Threads + Sync, S: Shelf, O: Sink>(
+    rt: &R,
     alloc: Global,
     command: Command<'_>,
     shelf: &mut S,
     out: &mut O,
 ) -> Result<(), Stop>
+    requires { CanBeRun command }
     ensures comes { ComesOut (task_of command.entry) (names_of command.entry) (S.seen shelf.old) (S.seen shelf.new) (O.seen out.old) (O.seen out.new) (said_of result) (status_of result) }
     ensures stays { IsSameShelf (S.seen shelf.old) (S.seen shelf.new) × IsSameSink (O.seen out.old) (O.seen out.new) }
     ensures early { StopsEarly result → out.new ≡ out.old }
@@ -139,12 +146,16 @@ pub fn run<S: Shelf, O: Sink>(
         Command::Tokens { sheet, text } => list_tokens(alloc, sheet, text, shelf, out),
         Command::Check { sheet } => check_sheet(alloc, sheet, shelf, out),
         Command::Tables { sheet } => print_tables(alloc, sheet, shelf, out),
-        Command::Run { emit, sheet, text } => {
-            translate_text(alloc, emit, sheet, text, shelf, out)
-        }
+        Command::Run {
+            options,
+            sheet,
+            text,
+        } => translate_text(rt, alloc, &options, sheet, text, shelf, out),
         Command::Gen { seed, sheet } => give_sample(alloc, seed, sheet, shelf, out),
-        Command::Load { seed, emit, sheet } => {
-            translate_sample(alloc, seed, emit, sheet, shelf, out)
-        }
+        Command::Load {
+            seed,
+            options,
+            sheet,
+        } => translate_sample(rt, alloc, seed, &options, sheet, shelf, out),
     }
 }

@@ -6,8 +6,10 @@ mod commands;
 mod inputs;
 mod laws;
 mod outputs;
+mod reporting;
 mod samples;
 mod saying;
+mod segments;
 mod stop;
 mod translating;
 

@@ -275,7 +275,7 @@ static SHEETS: [Row; 13] = [
 ];
 
 /// Words of no form. The first call of the shelf and of the output would fail, so a call that is made ends otherwise.
-static WORDS: [Row; 13] = [
+static WORDS: [Row; 19] = [
     Row {
         name: "no words",
         words: "",
@@ -335,6 +335,48 @@ static WORDS: [Row; 13] = [
     Row {
         name: "check --help",
         words: "check --help",
+        shelf_fails: &[1],
+        out_fails: &[1],
+        ..BAD_WORDS
+    },
+    Row {
+        name: "run",
+        words: "run",
+        shelf_fails: &[1],
+        out_fails: &[1],
+        ..BAD_WORDS
+    },
+    Row {
+        name: "run s t --cut 2 --at 2",
+        words: "run s t --cut 2 --at 2",
+        shelf_fails: &[1],
+        out_fails: &[1],
+        ..BAD_WORDS
+    },
+    Row {
+        name: "run s t --workers 65",
+        words: "run s t --workers 65",
+        shelf_fails: &[1],
+        out_fails: &[1],
+        ..BAD_WORDS
+    },
+    Row {
+        name: "run s t --workers 0",
+        words: "run s t --workers 0",
+        shelf_fails: &[1],
+        out_fails: &[1],
+        ..BAD_WORDS
+    },
+    Row {
+        name: "run s t --at 3,2",
+        words: "run s t --at 3,2",
+        shelf_fails: &[1],
+        out_fails: &[1],
+        ..BAD_WORDS
+    },
+    Row {
+        name: "load s --from 0 --size 1 --workers 65",
+        words: "load s --from 0 --size 1 --workers 65",
         shelf_fails: &[1],
         out_fails: &[1],
         ..BAD_WORDS

@@ -7,21 +7,21 @@ use std::test::Fail;
 use std::thread::Threads;
 
 /// Words that are parted by spaces, a sheet under the name `s`, a text under `t`, and what the call answers.
-struct Run {
-    name: &'static str,
-    words: &'static str,
-    sheet: &'static [u8],
-    text: &'static [u8],
-    status: u8,
-    out: &'static [u8],
-    err: &'static [u8],
+pub struct Run {
+    pub name: &'static str,
+    pub words: &'static str,
+    pub sheet: &'static [u8],
+    pub text: &'static [u8],
+    pub status: u8,
+    pub out: &'static [u8],
+    pub err: &'static [u8],
 }
 
 const NONE: &[u8] = b"%skip / +/\n\
 %%\n\
 s : { \"none\" } | s 'x' ;\n";
 
-const PAIRS: &[u8] = b"%%\n\
+pub const PAIRS: &[u8] = b"%%\n\
 s : c c ;\n\
 c : 'c' c | 'd' ;\n";
 
@@ -30,7 +30,7 @@ s : 'a' x 'c' | 'a' y 'd' | 'b' y 'c' | 'b' x 'd' ;\n\
 x : 'e' { \"x\" } ;\n\
 y : 'e' { \"y\" } ;\n";
 
-const SUMS: &[u8] = b"%token N /[0-9]+/\n\
+pub const SUMS: &[u8] = b"%token N /[0-9]+/\n\
 %%\n\
 list : list e ';' | e ';' ;\n\
 e : e '+' t | t ;\n\
@@ -40,7 +40,7 @@ const WORDS: &[u8] = b"%token ID /[a-z]+/\n\
 %%\n\
 s : 'if' { \"K\" } | ID { \"I\" $1 } ;\n";
 
-const STATEMENTS: &[u8] = b"%token LET 'let'\n\
+pub const STATEMENTS: &[u8] = b"%token LET 'let'\n\
 %token NAME /[a-z][a-z0-9]*/\n\
 %token NUM /[0-9]+/\n\
 %skip /[ \\t\\r]+/\n\
@@ -64,7 +64,7 @@ atom : NUM\n\
 \x20    ;\n";
 
 /// Twenty names are declared, and then each is used once.
-const TWENTY_NAMES: &[u8] = b"let a1 = 1;\n\
+pub const TWENTY_NAMES: &[u8] = b"let a1 = 1;\n\
 let a2 = 2;\n\
 let a3 = 3;\n\
 let a4 = 4;\n\
@@ -104,6 +104,48 @@ a17 = a17 + 1;\n\
 a18 = a18 + 1;\n\
 a19 = a19 + 1;\n\
 a20 = a20 + 1;\n";
+
+/// What a run gives of them.
+pub const TWENTY_LINES: &[u8] = b"new 1 = 1\n\
+new 2 = 2\n\
+new 3 = 3\n\
+new 4 = 4\n\
+new 5 = 5\n\
+new 6 = 6\n\
+new 7 = 7\n\
+new 8 = 8\n\
+new 9 = 9\n\
+new 10 = 10\n\
+new 11 = 11\n\
+new 12 = 12\n\
+new 13 = 13\n\
+new 14 = 14\n\
+new 15 = 15\n\
+new 16 = 16\n\
+new 17 = 17\n\
+new 18 = 18\n\
+new 19 = 19\n\
+new 20 = 20\n\
+set 1 = (v1+1)\n\
+set 2 = (v2+1)\n\
+set 3 = (v3+1)\n\
+set 4 = (v4+1)\n\
+set 5 = (v5+1)\n\
+set 6 = (v6+1)\n\
+set 7 = (v7+1)\n\
+set 8 = (v8+1)\n\
+set 9 = (v9+1)\n\
+set 10 = (v10+1)\n\
+set 11 = (v11+1)\n\
+set 12 = (v12+1)\n\
+set 13 = (v13+1)\n\
+set 14 = (v14+1)\n\
+set 15 = (v15+1)\n\
+set 16 = (v16+1)\n\
+set 17 = (v17+1)\n\
+set 18 = (v18+1)\n\
+set 19 = (v19+1)\n\
+set 20 = (v20+1)\n";
 
 static RUNS: [Run; 26] = [
     Run {
@@ -253,46 +295,7 @@ let x = 3;\n",
         sheet: STATEMENTS,
         text: TWENTY_NAMES,
         status: 0,
-        out: b"new 1 = 1\n\
-new 2 = 2\n\
-new 3 = 3\n\
-new 4 = 4\n\
-new 5 = 5\n\
-new 6 = 6\n\
-new 7 = 7\n\
-new 8 = 8\n\
-new 9 = 9\n\
-new 10 = 10\n\
-new 11 = 11\n\
-new 12 = 12\n\
-new 13 = 13\n\
-new 14 = 14\n\
-new 15 = 15\n\
-new 16 = 16\n\
-new 17 = 17\n\
-new 18 = 18\n\
-new 19 = 19\n\
-new 20 = 20\n\
-set 1 = (v1+1)\n\
-set 2 = (v2+1)\n\
-set 3 = (v3+1)\n\
-set 4 = (v4+1)\n\
-set 5 = (v5+1)\n\
-set 6 = (v6+1)\n\
-set 7 = (v7+1)\n\
-set 8 = (v8+1)\n\
-set 9 = (v9+1)\n\
-set 10 = (v10+1)\n\
-set 11 = (v11+1)\n\
-set 12 = (v12+1)\n\
-set 13 = (v13+1)\n\
-set 14 = (v14+1)\n\
-set 15 = (v15+1)\n\
-set 16 = (v16+1)\n\
-set 17 = (v17+1)\n\
-set 18 = (v18+1)\n\
-set 19 = (v19+1)\n\
-set 20 = (v20+1)\n",
+        out: TWENTY_LINES,
         err: b"",
     },
     Run {
@@ -413,8 +416,12 @@ fn ending_of_run<R: Threads + Sync>(rt: &R, alloc: Global, run: &Run) -> Result<
 }
 
 /// Asserts that each call answers what the row states.
-fn assert_runs<R: Abort + Threads + Sync>(rt: &R, alloc: Global) -> Result<(), Fail> {
-    for run in &RUNS {
+pub fn assert_runs<R: Abort + Threads + Sync>(
+    rt: &R,
+    alloc: Global,
+    runs: &[Run],
+) -> Result<(), Fail> {
+    for run in runs {
         let ending = ending_of_run(rt, alloc, run)?;
         assert!(rt;
             ending.is(run.status, run.out, run.err),
@@ -427,5 +434,5 @@ fn assert_runs<R: Abort + Threads + Sync>(rt: &R, alloc: Global) -> Result<(), F
 
 #[test]
 fn translates_texts_and_tells_the_first_wrong_token(rt: HostRuntime) -> Result<(), Fail> {
-    assert_runs(&rt, rt.alloc())
+    assert_runs(&rt, rt.alloc(), &RUNS)
 }

@@ -1,8 +1,13 @@
 -- Each command takes words in a plain form, and they tell the names of what it reads.
 use Rattle.std.proofs.Common.{◌≡◌, ℕ, ◌==◌, true, false, Bool, List, [], ◌∷◌, Option, Some, None, refl, ap, sym, subst}
 use Rattle.std.proofs.lemmas.Bool.{eqb-true}
-use Rattle.clap.proofs.OnLiterals.{clap_on_literals}
+use Rattle.std.specs.Str.{bytes_eq}
+use Rattle.clap.specs.Lexer.{strip_byte}
+use Rattle.clap.specs.Walk.{walked}
+use Rattle.clap.specs.Faults.{defaults_fault, walk_fault}
+use Rattle.tally_theory.specs.declared.cut.Cut.TheVariants.{Even}
 use Rattle.answer_theory.specs.declared.task.Task.{Task}
+use Rattle.word_theory.specs.declared.limits.TheConstants.{USUAL_SEGMENTS, USUAL_WORKERS}
 use Rattle.word_theory.specs.declared.command_name.CommandName.{CommandName}
 use Rattle.word_theory.specs.declared.command_name.CommandName.TheVariants.{Tokens, Check, Tables, Run}
 use Rattle.word_theory.specs.Arguments.{word_of, faults_in, told_in, IsTaken, Told}
@@ -17,9 +22,18 @@ no_dash x xs name = decide (x == 45) refl
     decide true e = absurd (name xs (ap (λ n. n ∷ xs) (eqb-true x 45 e)))
     decide false e = e
 
--- what names and the values of options tell
-abbrev told_by : Option (List ℕ) → Option (List ℕ) → Option (List ℕ) → Option (List ℕ) → Option (List ℕ) → Told
-told_by sheet text emit from size = record { sheet = sheet; text = text; emit = emit; from = from; size = size }
+-- so a name has nothing behind a dash, and is no end of options
+no_option : (word : List ℕ) → IsName word → strip_byte 45 word ≡ None
+no_option [] name = refl
+no_option (x ∷ xs) name = rw (no_dash x xs name) refl
+
+no_end : (word : List ℕ) → IsName word → bytes_eq word (45 ∷ 45 ∷ []) ≡ false
+no_end [] name = refl
+no_end (x ∷ xs) name = rw (no_dash x xs name) refl
+
+-- what names tell, where no option is told
+abbrev told_by : Option (List ℕ) → Option (List ℕ) → Told
+told_by sheet text = record { sheet = sheet; text = text; emit = None; workers = None; cut = None; at = None; from = None; size = None }
 
 -- a command takes these words, and they tell this
 record IsRead (name : CommandName) (words : List (List ℕ)) (told : Told) : Type 0 where
@@ -36,33 +50,41 @@ formed name words names told task read asks = record {
   ask = subst (λ t. AsksFor t name task names) (sym read.tells) asks;
 }
 
-check_read : (sheet : List ℕ) → IsName sheet → IsRead Check (sheet ∷ []) (told_by (Some sheet) None None None None)
-unfolding faults_in told_in clap_on_literals
-check_read [] s_name = record { taken = refl; tells = refl }
-check_read (s ∷ ss) s_name = let s_no : (s == 45) ≡ false = no_dash s ss s_name in record { taken = simp s_no; tells = simp s_no }
+check_read : (sheet : List ℕ) → IsName sheet → IsRead Check (sheet ∷ []) (told_by (Some sheet) None)
+unfolding faults_in told_in walked walk_fault defaults_fault
+check_read sheet s_name =
+    let s_no : strip_byte 45 sheet ≡ None = no_option sheet s_name in
+    let s_end : bytes_eq sheet (45 ∷ 45 ∷ []) ≡ false = no_end sheet s_name in
+    record { taken = simp (s_no, s_end); tells = simp (s_no, s_end) }
 
-tables_read : (sheet : List ℕ) → IsName sheet → IsRead Tables (sheet ∷ []) (told_by (Some sheet) None None None None)
-unfolding faults_in told_in clap_on_literals
-tables_read [] s_name = record { taken = refl; tells = refl }
-tables_read (s ∷ ss) s_name = let s_no : (s == 45) ≡ false = no_dash s ss s_name in record { taken = simp s_no; tells = simp s_no }
+tables_read : (sheet : List ℕ) → IsName sheet → IsRead Tables (sheet ∷ []) (told_by (Some sheet) None)
+unfolding faults_in told_in walked walk_fault defaults_fault
+tables_read sheet s_name =
+    let s_no : strip_byte 45 sheet ≡ None = no_option sheet s_name in
+    let s_end : bytes_eq sheet (45 ∷ 45 ∷ []) ≡ false = no_end sheet s_name in
+    record { taken = simp (s_no, s_end); tells = simp (s_no, s_end) }
 
-tokens_read : (sheet text : List ℕ) → IsName sheet → IsName text → IsRead Tokens (sheet ∷ text ∷ []) (told_by (Some sheet) (Some text) None None None)
-unfolding faults_in told_in clap_on_literals
-tokens_read [] [] s_name t_name = record { taken = refl; tells = refl }
-tokens_read [] (t ∷ ts) s_name t_name = let t_no : (t == 45) ≡ false = no_dash t ts t_name in record { taken = simp t_no; tells = simp t_no }
-tokens_read (s ∷ ss) [] s_name t_name = let s_no : (s == 45) ≡ false = no_dash s ss s_name in record { taken = simp s_no; tells = simp s_no }
-tokens_read (s ∷ ss) (t ∷ ts) s_name t_name = let s_no : (s == 45) ≡ false = no_dash s ss s_name in let t_no : (t == 45) ≡ false = no_dash t ts t_name in record { taken = simp (s_no, t_no); tells = simp (s_no, t_no) }
+tokens_read : (sheet text : List ℕ) → IsName sheet → IsName text → IsRead Tokens (sheet ∷ text ∷ []) (told_by (Some sheet) (Some text))
+unfolding faults_in told_in walked walk_fault defaults_fault
+tokens_read sheet text s_name t_name =
+    let s_no : strip_byte 45 sheet ≡ None = no_option sheet s_name in
+    let s_end : bytes_eq sheet (45 ∷ 45 ∷ []) ≡ false = no_end sheet s_name in
+    let t_no : strip_byte 45 text ≡ None = no_option text t_name in
+    let t_end : bytes_eq text (45 ∷ 45 ∷ []) ≡ false = no_end text t_name in
+    record { taken = simp (s_no, s_end, t_no, t_end); tells = simp (s_no, s_end, t_no, t_end) }
 
-run_read : (sheet text : List ℕ) → IsName sheet → IsName text → IsRead Run (sheet ∷ text ∷ []) (told_by (Some sheet) (Some text) None None None)
-unfolding faults_in told_in clap_on_literals
-run_read [] [] s_name t_name = record { taken = refl; tells = refl }
-run_read [] (t ∷ ts) s_name t_name = let t_no : (t == 45) ≡ false = no_dash t ts t_name in record { taken = simp t_no; tells = simp t_no }
-run_read (s ∷ ss) [] s_name t_name = let s_no : (s == 45) ≡ false = no_dash s ss s_name in record { taken = simp s_no; tells = simp s_no }
-run_read (s ∷ ss) (t ∷ ts) s_name t_name = let s_no : (s == 45) ≡ false = no_dash s ss s_name in let t_no : (t == 45) ≡ false = no_dash t ts t_name in record { taken = simp (s_no, t_no); tells = simp (s_no, t_no) }
+run_read : (sheet text : List ℕ) → IsName sheet → IsName text → IsRead Run (sheet ∷ text ∷ []) (told_by (Some sheet) (Some text))
+unfolding faults_in told_in walked walk_fault defaults_fault
+run_read sheet text s_name t_name =
+    let s_no : strip_byte 45 sheet ≡ None = no_option sheet s_name in
+    let s_end : bytes_eq sheet (45 ∷ 45 ∷ []) ≡ false = no_end sheet s_name in
+    let t_no : strip_byte 45 text ≡ None = no_option text t_name in
+    let t_end : bytes_eq text (45 ∷ 45 ∷ []) ≡ false = no_end text t_name in
+    record { taken = simp (s_no, s_end, t_no, t_end); tells = simp (s_no, s_end, t_no, t_end) }
 
 -- so each plain form is a form
 pub plain_form : PlainFormLaw
 plain_form words names task (plain_tokens {sheet = sheet} {text = text} s_name t_name) = formed Tokens _ _ _ _ (tokens_read sheet text s_name t_name) (asks_tokens refl refl)
 plain_form words names task (plain_check {sheet = sheet} s_name) = formed Check _ _ _ _ (check_read sheet s_name) (asks_check refl)
 plain_form words names task (plain_tables {sheet = sheet} s_name) = formed Tables _ _ _ _ (tables_read sheet s_name) (asks_tables refl)
-plain_form words names task (plain_run {sheet = sheet} {text = text} s_name t_name) = formed Run _ _ _ _ (run_read sheet text s_name t_name) (asks_run refl refl refl)
+plain_form words names task (plain_run {sheet = sheet} {text = text} s_name t_name) = formed Run _ _ _ _ (run_read sheet text s_name t_name) (asks_run refl refl (record { cut = Even USUAL_SEGMENTS; workers = USUAL_WORKERS; parsed_told = record { cut_told = refl; workers_told = refl }; asked_told = refl }))

@@ -2,6 +2,7 @@
 -- reads words makes of any others is its own function; these ask for what they say.
 use Rattle.std.specs.Prelude.{◌≢◌, ℕ, List, [], ◌∷◌, codes}
 use Rattle.run_theory.specs.declared.emit.Emit.TheVariants.{Output}
+use Rattle.tally_theory.specs.declared.asked.Asked.TheVariants.{Text}
 use Rattle.answer_theory.specs.declared.task.Task.{Task}
 use Rattle.answer_theory.specs.declared.task.Task.TheVariants.{Tokens, Check, Tables, Run}
 use Rattle.word_theory.specs.Words.{HasForm}
@@ -14,7 +15,7 @@ pub data IsPlainForm : List (List ℕ) → Task → List (List ℕ) → Type 0 w
   plain_tokens : {sheet text : List ℕ} → IsName sheet → IsName text → IsPlainForm (codes "tokens" ∷ sheet ∷ text ∷ []) Tokens (sheet ∷ text ∷ [])
   plain_check : {sheet : List ℕ} → IsName sheet → IsPlainForm (codes "check" ∷ sheet ∷ []) Check (sheet ∷ [])
   plain_tables : {sheet : List ℕ} → IsName sheet → IsPlainForm (codes "tables" ∷ sheet ∷ []) Tables (sheet ∷ [])
-  plain_run : {sheet text : List ℕ} → IsName sheet → IsName text → IsPlainForm (codes "run" ∷ sheet ∷ text ∷ []) (Run Output) (sheet ∷ text ∷ [])
+  plain_run : {sheet text : List ℕ} → IsName sheet → IsName text → IsPlainForm (codes "run" ∷ sheet ∷ text ∷ []) (Run (Text Output)) (sheet ∷ text ∷ [])
 
 -- such words are of the form that they show
 abbrev pub PlainFormLaw : Type 0

@@ -23,6 +23,15 @@ text_id = codes "TEXT"
 abbrev pub emit_id : List ℕ
 emit_id = codes "emit"
 
+abbrev pub workers_id : List ℕ
+workers_id = codes "workers"
+
+abbrev pub cut_id : List ℕ
+cut_id = codes "cut"
+
+abbrev pub at_id : List ℕ
+at_id = codes "at"
+
 abbrev pub from_id : List ℕ
 from_id = codes "from"
 
@@ -41,9 +50,9 @@ abbrev pub arguments_of : CommandName → List Rule
 arguments_of Tokens = position sheet_id ∷ position text_id ∷ []
 arguments_of Check = position sheet_id ∷ []
 arguments_of Tables = position sheet_id ∷ []
-arguments_of Run = position sheet_id ∷ position text_id ∷ option emit_id false ∷ []
+arguments_of Run = position sheet_id ∷ position text_id ∷ option emit_id false ∷ option workers_id false ∷ option cut_id false ∷ option at_id false ∷ []
 arguments_of Gen = position sheet_id ∷ option from_id true ∷ option size_id true ∷ []
-arguments_of Load = position sheet_id ∷ option emit_id false ∷ option from_id true ∷ option size_id true ∷ []
+arguments_of Load = position sheet_id ∷ option emit_id false ∷ option workers_id false ∷ option cut_id false ∷ option at_id false ∷ option from_id true ∷ option size_id true ∷ []
 
 -- a command with these arguments and nothing else, which is given the words after its own
 abbrev pub taking : List ℕ → List Rule → App
@@ -67,6 +76,9 @@ pub record Told : Type 0 where
   pub sheet : Option (List ℕ)
   pub text : Option (List ℕ)
   pub emit : Option (List ℕ)
+  pub workers : Option (List ℕ)
+  pub cut : Option (List ℕ)
+  pub at : Option (List ℕ)
   pub from : Option (List ℕ)
   pub size : Option (List ℕ)
 
@@ -78,6 +90,9 @@ told_in name words =
       sheet = first_of sheet_id rows;
       text = first_of text_id rows;
       emit = first_of emit_id rows;
+      workers = first_of workers_id rows;
+      cut = first_of cut_id rows;
+      at = first_of at_id rows;
       from = first_of from_id rows;
       size = first_of size_id rows;
     }

@@ -27,3 +27,6 @@ returns-in-Err-BadWords-clause-words g c e = c.in-Err-BadWords.ensures.fault c.i
 
 pub returns-in-Err-NoMemory-clause-ends : goal.returns-in-Err-NoMemory-clause-ends
 returns-in-Err-NoMemory-clause-ends g c = without_memory (reads_nothing _) (takes_nothing _) (takes_nothing _)
+
+pub run-requires : goal.run-requires
+run-requires g c = (c.type_bounds.sync-R, c.in-Ok.ensures.can)
