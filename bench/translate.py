@@ -83,4 +83,5 @@ def main():
         print('a small sheet and a line of text: %.1f ms' % (small(program, place) * 1000))
 
 
-main()
+if __name__ == '__main__':
+    main()
