@@ -1,5 +1,5 @@
 -- Answers stay right where maps are added behind the others, and where one right answer is kept.
-use Rattle.std.proofs.Common.{◌≡◌, ◌≢◌, ℕ, ◌<◌, ◌⊎◌, inl, inr, List, length, get_or, set, take, Some, None, sym, subst, ◌∙◌}
+use Rattle.std.proofs.Common.{◌≡◌, ◌≢◌, ℕ, ◌<◌, ◌≤◌, ◌⊎◌, inl, inr, List, length, get_or, set, take, Some, None, sym, subst, ◌∙◌}
 use Rattle.std.proofs.lemmas.Bool.{cases_eq}
 use Rattle.std.proofs.lemmas.List.{get_or-set_other}
 use Rattle.std.proofs.lemmas.Grind.{get_or-set_at}
@@ -36,19 +36,19 @@ answer_grown t old new q to grows asked is =
     let has : HasMap new to (Answers t old q) = has_grown old new to (Answers t old q) grows is in
     record { within = has.within; is = answers_grown t old new q (map_at new to) grows asked has.is }
 
-pub all_grown : (t : Tables) (old new : List StateMap) (kept : Kept) → Grows old new → AreAnswers t old kept → AreAnswers t new kept
-all_grown t old new kept grows right q to has =
+pub all_grown : (t : Tables) (old new : List StateMap) (base : ℕ) (kept : Kept) → Grows old new → AreAnswers t old base kept → AreAnswers t new base kept
+all_grown t old new base kept grows right q to has =
     let was = right q to has in
-    (asked_grown t old new q grows was.0, answer_grown t old new q to grows was.0 was.1)
+    (asked_grown t old new q grows was.0, answer_grown t old new q to grows was.0 was.1, was.2)
 
 -- ---- an answer kept
 
-pub all_kept : (t : Tables) (maps : List StateMap) (old new : Kept) (q : Question) (to : ℕ) → Remembers old new q to → IsAsked t maps q → IsAnswer t maps maps q to → AreAnswers t maps old → AreAnswers t maps new
-all_kept t maps old new q to remembers asked is right p a has = cases (remembers p a has)
+pub all_kept : (t : Tables) (maps : List StateMap) (base : ℕ) (old new : Kept) (q : Question) (to : ℕ) → Remembers old new q to → IsAsked t maps q → IsAnswer t maps maps q to → base ≤ to → AreAnswers t maps base old → AreAnswers t maps base new
+all_kept t maps base old new q to remembers asked is stands right p a has = cases (remembers p a has)
   where
-    cases : HasAnswer old p a ⊎ ((p ≡ q) × (a ≡ to)) → IsAsked t maps p × IsAnswer t maps maps p a
+    cases : HasAnswer old p a ⊎ ((p ≡ q) × (a ≡ to)) → IsAsked t maps p × IsAnswer t maps maps p a × (base ≤ a)
     cases (inl was) = right p a was
-    cases (inr here) = (subst (λ x. IsAsked t maps x) (sym here.0) asked, subst (λ x. IsAnswer t maps maps x a) (sym here.0) (subst (λ x. IsAnswer t maps maps q x) (sym here.1) is))
+    cases (inr here) = (subst (λ x. IsAsked t maps x) (sym here.0) asked, subst (λ x. IsAnswer t maps maps x a) (sym here.0) (subst (λ x. IsAnswer t maps maps q x) (sym here.1) is), subst (λ x. base ≤ x) (sym here.1) stands)
 
 -- one place is set, in places that were filled up
 pub remembers_set : (old filled : Kept) (place : ℕ) (q : Question) (to : ℕ) → ((i : ℕ) → get_or filled.0 i None ≡ get_or old.0 i None) → ((i : ℕ) → get_or filled.1 i 0 ≡ get_or old.1 i 0)

@@ -1,4 +1,5 @@
 pub mod Looks
 pub mod Codes
 pub mod Questions
+pub mod Forgetting
 pub mod Cells

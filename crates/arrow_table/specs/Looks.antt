@@ -1,5 +1,5 @@
 -- The maps of a table, by their numbers, and what a look at a token says of a map.
-use Rattle.std.specs.Prelude.{◌≡◌, ◌≢◌, ℕ, ◌<◌, ◌⊎◌, List, [], ◌++◌, length, slice_index_or, Some}
+use Rattle.std.specs.Prelude.{◌≡◌, ◌≢◌, ℕ, ◌<◌, ◌≤◌, ◌⊎◌, List, [], ◌++◌, length, slice_index_or, Some}
 use Rattle.grammar_data.specs.declared.rule.Sym.TheVariants.{Token}
 use Rattle.table_data.specs.declared.act.Act.TheVariants.{Error}
 use Rattle.table_data.specs.Tables.{Tables, act_in}
@@ -37,3 +37,10 @@ IsLook t a m maps (look.Died alive) = SomeErrs t a m × HasMap maps alive (AreAl
 IsLook t a m maps (look.Shift to) = NoneErrs t a m × AllShift t a m × HasMap maps to (IsThenSymbol t (Token a) m)
 IsLook t a m maps (look.Reduce rule) = NoneErrs t a m × AllReduce t a rule m
 IsLook t a m maps look.Stuck = NoneErrs t a m × (NoneLeft t a m ⊎ AreSeveral t a m)
+
+-- the number of the map that a look names, if any, isn't below this one
+abbrev pub IsLookFrom : ℕ → Look → Type 0
+IsLookFrom base (look.Died alive) = base ≤ alive
+IsLookFrom base (look.Shift to) = base ≤ to
+IsLookFrom base (look.Reduce rule) = Unit {0}
+IsLookFrom base look.Stuck = Unit {0}

@@ -18,6 +18,14 @@ IsAsked t maps (question.Restrict id keep) = (id < length maps) × (keep < lengt
 IsAsked t maps (question.Back id rule hidden) = (id < length maps) × (rule < length t.rules) × ((n : ℕ) (right : List Sym) → IsRule t.rules rule n right → hidden ≤ length right)
 IsAsked t maps (question.Shift id a) = id < length maps
 
+-- the numbers of the maps that the question names aren't below this one
+abbrev pub IsAskedFrom : ℕ → Question → Type 0
+IsAskedFrom base (question.Open a) = Unit {0}
+IsAskedFrom base (question.Identity id) = base ≤ id
+IsAskedFrom base (question.Restrict id keep) = (base ≤ id) × (base ≤ keep)
+IsAskedFrom base (question.Back id rule hidden) = base ≤ id
+IsAskedFrom base (question.Shift id a) = base ≤ id
+
 -- a map answers the question
 abbrev pub Answers : Tables → List StateMap → Question → StateMap → Type 0
 Answers t maps (question.Open a) m = AreShiftStarts t a m
@@ -44,6 +52,6 @@ pub record HasAnswer (kept : Kept) (q : Question) (to : ℕ) : Type 0 where
 abbrev pub Remembers : Kept → Kept → Question → ℕ → Type 0
 Remembers old new q answer = (p : Question) (a : ℕ) → HasAnswer new p a → HasAnswer old p a ⊎ ((p ≡ q) × (a ≡ answer))
 
--- what is kept was asked, and is right
-abbrev pub AreAnswers : Tables → List StateMap → Kept → Type 0
-AreAnswers t maps kept = (q : Question) (a : ℕ) → HasAnswer kept q a → IsAsked t maps q × IsAnswer t maps maps q a
+-- what is kept was asked, and is right, and its map's number isn't below the base
+abbrev pub AreAnswers : Tables → List StateMap → ℕ → Kept → Type 0
+AreAnswers t maps base kept = (q : Question) (a : ℕ) → HasAnswer kept q a → IsAsked t maps q × IsAnswer t maps maps q a × (base ≤ a)

@@ -1,7 +1,7 @@
-ghost use Rattle.std.specs.Prelude.{◌≡◌, IfOk};
+ghost use Rattle.std.specs.Prelude.{◌≡◌, ◌≤◌, IfOk};
 ghost use Rattle.state_sets.specs.Within.{AreWithin};
 ghost use Rattle.arrow_table.specs.Looks.{Grows};
-ghost use Rattle.arrow_table.specs.Questions.{Answers, IsAnswer, IsAsked};
+ghost use Rattle.arrow_table.specs.Questions.{Answers, IsAnswer, IsAsked, IsAskedFrom};
 
 use crate::arrows::Arrows;
 use crate::id::ArrowId;
@@ -14,7 +14,8 @@ use std::alloc::Global;
 impl<'a> Arrows<'a> {
     /// The map that answers a question, by the tables.
     fn found(&self, alloc: Global, question: &Question) -> Result<Arrow, NoMemory>
-        requires { IsAsked self.now.0 self.now.1 question.now }
+        requires asked { IsAsked self.now.0 self.now.1 question.now }
+        requires from { IsAskedFrom self.now.2 question.now }
         ensures answers { IfOk result (Answers self.now.0 self.now.1 question.now) }
         ensures within { IfOk result (AreWithin self.now.0.states) }
     {
@@ -39,8 +40,10 @@ impl<'a> Arrows<'a> {
         requires answers { Answers self.old.0 self.old.1 question arrow }
         requires within { AreWithin self.old.0.states arrow }
         ensures tables { self.new.0 ≡ self.old.0 }
+        ensures base { self.new.2 ≡ self.old.2 }
         ensures grows { Grows self.old.1 self.new.1 }
         ensures answer { IfOk result (IsAnswer self.old.0 self.old.1 self.new.1 question) }
+        ensures stands { IfOk result (λ to. self.new.2 ≤ to) }
     {
         let to = self.add(arrow)?;
         self.note_answer(question, to)?;
@@ -49,10 +52,13 @@ impl<'a> Arrows<'a> {
 
     /// The answer to a question, from what is kept or by the tables.
     pub(crate) fn ask(&mut self, alloc: Global, question: Question) -> Result<ArrowId, NoMemory>
-        requires { IsAsked self.old.0 self.old.1 question }
+        requires asked { IsAsked self.old.0 self.old.1 question }
+        requires from { IsAskedFrom self.old.2 question }
         ensures tables { self.new.0 ≡ self.old.0 }
+        ensures base { self.new.2 ≡ self.old.2 }
         ensures grows { Grows self.old.1 self.new.1 }
         ensures answer { IfOk result (IsAnswer self.old.0 self.old.1 self.new.1 question) }
+        ensures stands { IfOk result (λ to. self.new.2 ≤ to) }
     {
         if let Some(to) = self.known_answer(&question) {
             return Ok(to);

@@ -4,6 +4,8 @@
 mod arrows;
 mod asking;
 mod cell;
+mod forgetting;
+mod forgotten;
 mod id;
 mod interning;
 mod known;

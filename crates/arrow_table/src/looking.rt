@@ -1,6 +1,6 @@
-ghost use Rattle.std.specs.Prelude.{◌≡◌, ◌<◌, IfOk, IsTrue, false, length};
+ghost use Rattle.std.specs.Prelude.{◌≡◌, ◌<◌, ◌≤◌, IfOk, IsTrue, false, length};
 ghost use Rattle.state_sets.specs.Within.{AreWithin};
-ghost use Rattle.arrow_table.specs.Looks.{Grows, IsLook, NoneErrs, SomeErrs, map_at};
+ghost use Rattle.arrow_table.specs.Looks.{Grows, IsLook, IsLookFrom, NoneErrs, SomeErrs, map_at};
 
 use crate::arrows::Arrows;
 use crate::id::ArrowId;
@@ -29,10 +29,13 @@ fn some_errs(tables: &Tables, arrow: &Arrow, token: TokenId) -> bool
 impl<'a> Arrows<'a> {
     /// What a look at a token says, by the tables.
     fn find_look(&mut self, alloc: Global, id: ArrowId, token: TokenId) -> Result<Look, NoMemory>
-        requires { id < length self.old.1 }
+        requires id { id < length self.old.1 }
+        requires stands { self.old.2 ≤ id }
         ensures tables { self.new.0 ≡ self.old.0 }
+        ensures base { self.new.2 ≡ self.old.2 }
         ensures grows { Grows self.old.1 self.new.1 }
         ensures look { IfOk result (IsLook self.old.0 token (map_at self.old.1 id) self.new.1) }
+        ensures stands { IfOk result (IsLookFrom self.new.2) }
     {
         let map = self.map(id);
         if some_errs(self.tables(), map, token) {
@@ -48,10 +51,13 @@ impl<'a> Arrows<'a> {
 
     /// Looks at a token: what the targets of a map do on it. Where some err, the map of the others is there then.
     pub fn look(&mut self, alloc: Global, id: ArrowId, token: TokenId) -> Result<Look, NoMemory>
-        requires { id < length self.old.1 }
+        requires id { id < length self.old.1 }
+        requires stands { self.old.2 ≤ id }
         ensures tables { self.new.0 ≡ self.old.0 }
+        ensures base { self.new.2 ≡ self.old.2 }
         ensures grows { Grows self.old.1 self.new.1 }
         ensures look { IfOk result (IsLook self.old.0 token (map_at self.old.1 id) self.new.1) }
+        ensures stands { IfOk result (IsLookFrom self.new.2) }
     {
         if let Some(look) = self.known_look(id, token) {
             return Ok(look);

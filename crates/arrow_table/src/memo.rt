@@ -88,6 +88,14 @@ impl Memo {
         Some(self.answers[place])
     }
 
+    /// No answer is kept any longer.
+    pub fn clear(&mut self)
+        ensures { self.new ≡ ([], []) }
+    {
+        self.questions.clear();
+        self.answers.clear();
+    }
+
     /// Makes the places, where they aren't made yet.
     fn fill(&mut self) -> Result<(), NoMemory>
         ensures questions { (i : ℕ) → slice_index_or self.new.0 i None ≡ slice_index_or self.old.0 i None }

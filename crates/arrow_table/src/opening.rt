@@ -21,10 +21,12 @@ impl<'a> Arrows<'a> {
     /// The maps of the states that shift a token.
     pub fn open(&mut self, alloc: Global, token: TokenId) -> Result<Opening, NoMemory>
         ensures tables { self.new.0 ≡ self.old.0 }
+        ensures base { self.new.2 ≡ self.old.2 }
         ensures grows { Grows self.old.1 self.new.1 }
         ensures after { IfOk result (λ opening. HasMap self.new.1 opening.after (AreShiftStarts self.old.0 token)) }
         ensures starts { IfOk result (λ opening. HasMap self.new.1 opening.starts
             (IsIdentityOf (map_at self.new.1 opening.after))) }
+        ensures stands { IfOk result (λ opening. (self.new.2 ≤ opening.after) × (self.new.2 ≤ opening.starts)) }
     {
         let after = self.ask(alloc, Question::Open(token))?;
         let starts = self.identity(alloc, after)?;
@@ -33,10 +35,13 @@ impl<'a> Arrows<'a> {
 
     /// Each start of a map, to itself.
     pub fn identity(&mut self, alloc: Global, id: ArrowId) -> Result<ArrowId, NoMemory>
-        requires { id < length self.old.1 }
+        requires id { id < length self.old.1 }
+        requires stands { self.old.2 ≤ id }
         ensures tables { self.new.0 ≡ self.old.0 }
+        ensures base { self.new.2 ≡ self.old.2 }
         ensures grows { Grows self.old.1 self.new.1 }
         ensures identity { IfOk result (λ to. HasMap self.new.1 to (IsIdentityOf (map_at self.old.1 id))) }
+        ensures stands { IfOk result (λ to. self.new.2 ≤ to) }
     {
         self.ask(alloc, Question::Identity(id))
     }
@@ -49,11 +54,15 @@ impl<'a> Arrows<'a> {
         keep: ArrowId,
     ) -> Result<ArrowId, NoMemory>
         requires id { id < length self.old.1 }
+        requires stands { self.old.2 ≤ id }
         requires keep { keep < length self.old.1 }
+        requires keep_stands { self.old.2 ≤ keep }
         ensures tables { self.new.0 ≡ self.old.0 }
+        ensures base { self.new.2 ≡ self.old.2 }
         ensures grows { Grows self.old.1 self.new.1 }
         ensures restricted { IfOk result (λ to. HasMap self.new.1 to
             (IsRestricted (map_at self.old.1 id) (map_at self.old.1 keep))) }
+        ensures stands { IfOk result (λ to. self.new.2 ≤ to) }
     {
         self.ask(alloc, Question::Restrict(id, keep))
     }
@@ -67,12 +76,15 @@ impl<'a> Arrows<'a> {
         hidden: u32,
     ) -> Result<ArrowId, NoMemory>
         requires id { id < length self.old.1 }
+        requires stands { self.old.2 ≤ id }
         requires rule { rule < length self.old.0.rules }
         requires hidden { (n : ℕ) (right : List Symbol) → IsRule self.old.0.rules rule n right → hidden ≤ length right }
         ensures tables { self.new.0 ≡ self.old.0 }
+        ensures base { self.new.2 ≡ self.old.2 }
         ensures grows { Grows self.old.1 self.new.1 }
         ensures back { IfOk result (λ to. (n : ℕ) (right : List Symbol) → IsRule self.old.0.rules rule n right
             → HasMap self.new.1 to (IsBack self.old.0 (take hidden right) (map_at self.old.1 id))) }
+        ensures stands { IfOk result (λ to. self.new.2 ≤ to) }
     {
         self.ask(alloc, Question::Back(id, rule, hidden))
     }

@@ -5,7 +5,6 @@ ghost use Rattle.arrow_table.specs.Cells.{ChangesCell, cell_at};
 ghost use Rattle.arrow_table.specs.Codes.{IsSmall};
 
 use crate::cell::Cell;
-use crate::id::ArrowId;
 use crate::known::Known;
 use lr_base::{NoMemory, RuleId};
 use lr_machine::Tables;
@@ -51,14 +50,29 @@ impl Rows {
     }
 
     /// What is known in a cell.
-    pub fn get(&self, row: ArrowId, column: usize) -> Known
+    pub fn get(&self, row: u32, column: usize) -> Known
         requires { column < self.now.0 }
         ensures { result ≡ cell_at self.now row column }
     {
-        match self.cells.get(row.place() * self.width + column) {
+        match self.cells.get(row as usize * self.width + column) {
             Some(cell) => cell.known(),
             None => Known::Nothing,
         }
+    }
+
+    /// How many cells there are.
+    pub fn len(&self) -> usize
+        ensures { result ≡ length self.now.1 }
+    {
+        self.cells.len()
+    }
+
+    /// Of no cell anything is known any longer.
+    pub fn clear(&mut self)
+        ensures width { self.new.0 ≡ self.old.0 }
+        ensures cells { self.new.1 ≡ [] }
+    {
+        self.cells.clear();
     }
 
     /// Puts cells of which nothing is known behind the others until there is one at a place.
@@ -74,7 +88,7 @@ impl Rows {
     }
 
     /// Sets a cell, and nothing else. Where its number doesn't fit in 30 bits nothing changes.
-    pub fn set(&mut self, row: ArrowId, column: usize, known: Known) -> Result<(), NoMemory>
+    pub fn set(&mut self, row: u32, column: usize, known: Known) -> Result<(), NoMemory>
         requires { column < self.old.0 }
         ensures width { self.new.0 ≡ self.old.0 }
         ensures others { ChangesCell self.old self.new row column known }
@@ -83,7 +97,7 @@ impl Rows {
         let Some(cell) = Cell::of(known) else {
             return Ok(());
         };
-        let place = row.place() * self.width + column;
+        let place = row as usize * self.width + column;
         self.fill(place)?;
         self.cells[place] = cell;
         Ok(())

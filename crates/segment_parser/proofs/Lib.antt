@@ -9,3 +9,6 @@ pub mod CloseLemmas
 pub mod SettleLemmas
 pub mod ReadLemmas
 pub mod OpenLemmas
+pub mod EnterLemmas
+pub mod RetraceLemmas
+pub mod FlushLemmas

@@ -38,14 +38,14 @@ use Rattle.segment_parser.proofs.ReduceLemmas.{none_grows, all_grows}
 
 -- ---- what is the same by another name
 
-open_as : {t : Tables} {store : Store} {p q : Piece} {w next : List TextToken} {lower other : List Floor} {f g : Floor} {under : List Held} {h : Held} {stale stale1 : ℕ} → p ≡ q → lower ≡ other → f ≡ g → stale ≡ stale1 → IsOpenPiece t store p w next lower f under h stale → IsOpenPiece t store q w next other g under h stale1
+pub open_as : {t : Tables} {store : Store} {p q : Piece} {w next : List TextToken} {lower other : List Floor} {f g : Floor} {under : List Held} {h : Held} {stale stale1 : ℕ} → p ≡ q → lower ≡ other → f ≡ g → stale ≡ stale1 → IsOpenPiece t store p w next lower f under h stale → IsOpenPiece t store q w next other g under h stale1
 open_as {t} {store} {p} {q} {w} {next} {lower} {other} {f} {g} {under} {h} {stale} {stale1} same_piece same_lower same_floor same_stale piece =
     let one : IsOpenPiece t store q w next lower f under h stale = subst (λ x. IsOpenPiece t store x w next lower f under h stale) same_piece piece in
     let two : IsOpenPiece t store q w next other f under h stale = subst (λ x. IsOpenPiece t store q w next x f under h stale) same_lower one in
     let three : IsOpenPiece t store q w next other g under h stale = subst (λ x. IsOpenPiece t store q w next other x under h stale) same_floor two in
     subst (λ (x : ℕ). IsOpenPiece t store q w next other g under h x) same_stale three
 
-open_grows : {t : Tables} {store : Store} (maps new : List StateMap) {s : Leaf} {nodes : List Ref} {front : List Step} {w next : List TextToken} → Grows maps new → IsOpenIn t store maps s nodes front w next → IsOpenIn t store new s nodes front w next
+pub open_grows : {t : Tables} {store : Store} (maps new : List StateMap) {s : Leaf} {nodes : List Ref} {front : List Step} {w next : List TextToken} → Grows maps new → IsOpenIn t store maps s nodes front w next → IsOpenIn t store new s nodes front w next
 open_grows {t} {store} maps new {s} {nodes} {front} {w} {next} grows is =
     let piece = piece_grows maps new s grows is.has in
     record {

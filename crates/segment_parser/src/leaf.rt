@@ -1,4 +1,4 @@
-ghost use Rattle.std.specs.Prelude.{◌≡◌, ℕ, ◌+◌, ◌-◌, ◌^◌, ◌<◌, ◌≤◌, [], ◌∷◌, ◌++◌, length, List, IfOk, OnOk, slice_set, take, drop, replicate, Some, None};
+ghost use Rattle.std.specs.Prelude.{◌≡◌, ℕ, ◌+◌, ◌-◌, ◌^◌, ◌<◌, ◌≤◌, [], ◌∷◌, ◌++◌, length, List, IfOk, OnOk, slice_index_or, slice_set, take, drop, replicate, Some, None};
 ghost use Rattle.grammar_data.specs.declared.rule.Sym.TheVariants.{Name};
 ghost use Rattle.grammar_data.specs.declared.rule.Sym.{Sym as Symbol};
 ghost use Rattle.grammar_data.specs.declared.token.Token.{Token as TextToken};
@@ -15,6 +15,7 @@ ghost use Rattle.state_sets.specs.Within.{HasSymbol};
 ghost use Rattle.arrow_table.specs.Looks.{Grows, HasMap, map_at};
 ghost use Rattle.segment_parser.specs.Working.{AreThere, IsFreshAt, last_id, last_of};
 ghost use Rattle.segment_parser.specs.Standing.{SameButEntries};
+ghost use Rattle.segment_parser.specs.Numbers.{AllStand, AreFrom, Stands};
 ghost use Rattle.look_laws.specs.Deaths.{deaths};
 ghost use Rattle.piece_blocks.specs.Faults.{lost};
 
@@ -26,7 +27,9 @@ use std::alloc::Global;
 
 /// The piece that is open, and the pieces before it. `ids` has the number of the map over each entry, whose kids stand in the
 /// block; from entry `stale` on the maps have alive starts alone. The last floor's starts are two maps: each start to the
-/// start of the floor below, and each to itself. After an error nothing is known of the piece, and it's to be dropped.
+/// start of the floor below, and each to itself. The table keeps these two maps and the last entry's; those over lower entries
+/// it may have forgotten, and they are found again when they are wanted. After an error nothing is known of the piece, and it's
+/// to be dropped.
 #[derive(Debug, Drop)]
 pub struct Leaf {
     pub block: Block,
@@ -69,6 +72,7 @@ impl Leaf {
     pub fn begin(alloc: Global, arrows: &mut Arrows<'_>, token: &Token) -> Result<Leaf, NoMemory>
         requires token { token.now.id < 2 ^ 32 - 2 }
         ensures tables { arrows.new.0 ≡ arrows.old.0 }
+        ensures base { arrows.new.2 ≡ arrows.old.2 }
         ensures grows { Grows arrows.old.1 arrows.new.1 }
         ensures block { IfOk result (λ leaf. (leaf.block.kids ≡ TokenKid token.now ∷ []) × (leaf.block.floors ≡ [])
             × (leaf.block.closed ≡ [])) }
@@ -78,6 +82,7 @@ impl Leaf {
         ensures own { IfOk result (λ leaf. HasMap arrows.new.1 leaf.own (IsIdentityOf (map_at arrows.new.1 leaf.starts))) }
         ensures first { IfOk result (λ leaf. (leaf.first ≡ token.now) × (leaf.count ≡ 1) × (leaf.stale ≡ 0)
             × (leaf.opened ≡ None) × (leaf.faults ≡ [])) }
+        ensures stand { IfOk result (AllStand arrows.new.2) }
     {
         let Opening { starts, after } = arrows.open(alloc, token.id)?;
         let own = arrows.identity(alloc, starts)?;
@@ -108,6 +113,7 @@ impl Leaf {
         requires token { token.now.id < 2 ^ 32 - 2 }
         requires closed { (self.old.block.kids ≡ []) × (self.old.block.floors ≡ []) }
         ensures tables { arrows.new.0 ≡ arrows.old.0 }
+        ensures base { arrows.new.2 ≡ arrows.old.2 }
         ensures grows { Grows arrows.old.1 arrows.new.1 }
         ensures kids { OnOk result (self.new.block.kids ≡ TokenKid token.now ∷ []) }
         ensures floors { OnOk result (self.new.block.floors ≡ []) }
@@ -119,6 +125,7 @@ impl Leaf {
         ensures opened { OnOk result (self.new.opened ≡ None) }
         ensures first { OnOk result ((self.new.first ≡ token.now) × (self.new.count ≡ 1) × (self.new.stale ≡ 0)) }
         ensures faults { OnOk result (self.new.faults ≡ []) }
+        ensures stand { OnOk result (AllStand arrows.new.2 self.new) }
     {
         let kid = PackedKid::of(Kid::Token(*token));
         let Opening { starts, after } = arrows.open(alloc, token.id)?;
@@ -146,12 +153,15 @@ impl Leaf {
         node: NodeRef,
     ) -> Result<(), NoMemory>
         requires below { below < length arrows.old.1 }
+        requires stands { arrows.old.2 ≤ below }
         requires name { HasSymbol arrows.old.0 (Name name) }
         ensures tables { arrows.new.0 ≡ arrows.old.0 }
+        ensures base { arrows.new.2 ≡ arrows.old.2 }
         ensures grows { Grows arrows.old.1 arrows.new.1 }
         ensures kids { OnOk result (self.new.block.kids ≡ self.old.block.kids ++ NodeKid node ∷ []) }
         ensures ids { OnOk result ((to : ℕ) × (self.new.ids.items ≡ self.old.ids.items ++ to ∷ [])
-            × HasMap arrows.new.1 to (IsThenSymbol arrows.old.0 (Name name) (map_at arrows.old.1 below))) }
+            × HasMap arrows.new.1 to (IsThenSymbol arrows.old.0 (Name name) (map_at arrows.old.1 below))
+            × (arrows.new.2 ≤ to)) }
         ensures count { OnOk result (self.new.count ≡ self.old.count) }
         ensures stale { OnOk result (self.new.stale ≡ self.old.stale) }
         ensures same { OnOk result (SameButEntries self.old self.new) }
@@ -198,13 +208,18 @@ impl Leaf {
         requires depth { depth < length self.old.ids.items }
         requires there { AreThere arrows.old.1 self.old.ids.items }
         requires starts { self.old.starts < length arrows.old.1 }
+        requires stands { arrows.old.2 ≤ slice_index_or self.old.ids.items depth 0 }
+        requires starts_stand { arrows.old.2 ≤ self.old.starts }
         ensures tables { arrows.new.0 ≡ arrows.old.0 }
+        ensures base { arrows.new.2 ≡ arrows.old.2 }
         ensures grows { Grows arrows.old.1 arrows.new.1 }
         ensures fresh { OnOk result (IsFreshAt arrows.old.1 arrows.new.1 self.old.starts self.old.stale self.new.stale depth
             self.old.ids.items self.new.ids.items) }
         ensures block { self.new.block ≡ self.old.block }
         ensures count { self.new.count ≡ self.old.count }
         ensures same { SameButEntries self.old self.new }
+        ensures stands { OnOk result (arrows.new.2 ≤ slice_index_or self.new.ids.items depth 0) }
+        ensures levels { OnOk result (AreFrom arrows.old.2 self.old.ids.items → AreFrom arrows.new.2 self.new.ids.items) }
     {
         if depth < self.stale {
             let fresh = arrows.restrict(alloc, self.ids[depth], self.starts)?;
@@ -216,7 +231,8 @@ impl Leaf {
 
     /// Puts the last floor with the closed ones below it: its starts and faults stay as they are.
     pub fn put_floor(&mut self, alloc: Global, arrows: &Arrows<'_>) -> Result<(), NoMemory>
-        requires { self.old.starts < length arrows.now.1 }
+        requires starts { self.old.starts < length arrows.now.1 }
+        requires stands { arrows.now.2 ≤ self.old.starts }
         ensures floors { OnOk result (self.new.block.floors ≡ self.old.block.floors
             ++ last_of arrows.now.1 self.old.opened self.old.starts self.old.faults ∷ []) }
         ensures faults { OnOk result (self.new.faults ≡ []) }
@@ -237,7 +253,8 @@ impl Leaf {
 
     /// Closes the piece: the block has it with its tokens, floors and kids.
     pub fn close(&mut self, alloc: Global, arrows: &Arrows<'_>) -> Result<(), NoMemory>
-        requires { self.old.starts < length arrows.now.1 }
+        requires starts { self.old.starts < length arrows.now.1 }
+        requires stands { arrows.now.2 ≤ self.old.starts }
         ensures closed { OnOk result (self.new.block.closed ≡ self.old.block.closed
             ++ record {
               first = self.old.first;
@@ -266,9 +283,11 @@ impl Leaf {
     ) -> Result<NodeRef, NoMemory>
         requires chunk { HasChunk store.old chunk }
         requires starts { self.old.starts < length arrows.old.1 }
+        requires stands { arrows.old.2 ≤ self.old.starts }
         requires rule { rule < length arrows.old.0.rules }
         requires hidden { (n : ℕ) (right : List Symbol) → IsRule arrows.old.0.rules rule n right → hidden ≤ length right }
         ensures tables { arrows.new.0 ≡ arrows.old.0 }
+        ensures base { arrows.new.2 ≡ arrows.old.2 }
         ensures grows { Grows arrows.old.1 arrows.new.1 }
         ensures trees { IfOk result (λ node. StoresNode (store_of store.old) (store_of store.new) rule
             (replicate hidden Hidden ++ self.old.block.kids) node) }
@@ -282,6 +301,7 @@ impl Leaf {
         ensures own { OnOk result (HasMap arrows.new.1 self.new.own (IsIdentityOf (map_at arrows.new.1 self.new.starts))) }
         ensures entries { OnOk result ((self.new.block.kids ≡ []) × (self.new.ids.items ≡ []) × (self.new.stale ≡ 0)) }
         ensures faults { OnOk result (self.new.faults ≡ []) }
+        ensures stand { OnOk result ((arrows.new.2 ≤ self.new.starts) × (arrows.new.2 ≤ self.new.own)) }
         ensures closed { OnOk result (self.new.block.closed ≡ self.old.block.closed) }
         ensures same { OnOk result ((self.new.first ≡ self.old.first) × (self.new.count ≡ self.old.count)) }
     {
@@ -309,7 +329,10 @@ impl Leaf {
         requires there { AreThere arrows.old.1 self.old.ids.items }
         requires starts { self.old.starts < length arrows.old.1 }
         requires alive { alive < length arrows.old.1 }
+        requires alive_stands { arrows.old.2 ≤ alive }
+        requires stand { Stands arrows.old.2 self.old }
         ensures tables { arrows.new.0 ≡ arrows.old.0 }
+        ensures base { arrows.new.2 ≡ arrows.old.2 }
         ensures grows { Grows arrows.old.1 arrows.new.1 }
         ensures lost { OnOk result (self.new.faults ≡ self.old.faults
             ++ lost (map_at arrows.old.1 (last_id self.old.ids.items)) (map_at arrows.old.1 alive) token.now self.old.count) }
@@ -324,6 +347,8 @@ impl Leaf {
             ≡ slice_set self.old.ids.items (length self.old.ids.items - 1) alive) }
         ensures stale { OnOk result (self.new.stale ≡ length self.old.ids.items - 1) }
         ensures block { self.new.block ≡ self.old.block }
+        ensures stand { OnOk result (Stands arrows.new.2 self.new) }
+        ensures levels { OnOk result (AreFrom arrows.old.2 self.old.ids.items → AreFrom arrows.new.2 self.new.ids.items) }
         ensures same { OnOk result ((self.new.opened ≡ self.old.opened) × (self.new.first ≡ self.old.first)
             × (self.new.count ≡ self.old.count)) }
         ensures open { OnOk result ((store : NodeTable) (nodes : List Ref) (front : List Step) (w : List TextToken)

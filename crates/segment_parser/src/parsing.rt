@@ -10,6 +10,7 @@ ghost use Rattle.part_theory.specs.Parts.{HasParts};
 ghost use Rattle.bare_theory.specs.Bare.{AreBarePiecesOf};
 ghost use Rattle.arrow_table.specs.Looks.{Grows};
 ghost use Rattle.segment_parser.specs.Settling.{IsBetween};
+ghost use Rattle.segment_parser.specs.Numbers.{Stands};
 
 use crate::leaf::Leaf;
 use crate::segment::Segment;
@@ -21,7 +22,7 @@ use piece_blocks::Block;
 use std::alloc::Global;
 
 impl Leaf {
-    /// Reads the tokens from the second on.
+    /// Reads the tokens from the second on. After each of them the table may forget maps.
     fn read_all(
         &mut self,
         alloc: Global,
@@ -37,14 +38,17 @@ impl Leaf {
         requires few { length tokens.now ≤ TEXT_BYTES }
         requires tokens { All (λ (token : TextToken). token.id < 2 ^ 32 - 2) tokens.now }
         requires some { 0 < length tokens.now }
+        requires stand { Stands arrows.old.2 self.old }
         requires at { IsBetween arrows.old.0 (store_of store.old) arrows.old.1 self.old tokens.now 1 }
         ensures tables { arrows.new.0 ≡ arrows.old.0 }
         ensures grows { Grows arrows.old.1 arrows.new.1 }
         ensures chunks { OnOk result (numbers_in store.new ≡ numbers_in store.old) }
+        ensures stand { OnOk result (Stands arrows.new.2 self.new) }
         ensures at { OnOk result (IsBetween arrows.old.0 (store_of store.new) arrows.new.1 self.new tokens.now (length tokens.now)) }
     {
         for index in 1..tokens.len() {
             self.read(alloc, arrows, store, chunk, &tokens[index])?;
+            self.flush(alloc, arrows)?;
         }
         Ok(())
     }

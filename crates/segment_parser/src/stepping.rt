@@ -7,6 +7,7 @@ ghost use Rattle.node_store.specs.Chunks.{HasChunk, numbers_in, store_of};
 ghost use Rattle.grammar_data.specs.declared.token.Token.{Token as TextToken};
 ghost use Rattle.arrow_table.specs.Looks.{Grows, map_at};
 ghost use Rattle.segment_parser.specs.Settling.{IsBetween, IsLooking, IsStepped};
+ghost use Rattle.segment_parser.specs.Numbers.{Stands};
 
 use crate::leaf::Leaf;
 use arrow_table::{Arrows, Look};
@@ -30,11 +31,14 @@ impl Leaf {
         requires tables { IsTables arrows.old.0 }
         requires chunk { HasChunk store.old chunk }
         requires token { token.now.id < 2 ^ 32 - 2 }
+        requires stand { Stands arrows.old.2 self.old }
         requires at { (tokens : List TextToken) × (index : ℕ) × (length tokens ≤ TEXT_BYTES)
             × IsLooking arrows.old.0 (store_of store.old) arrows.old.1 self.old tokens index token.now }
         ensures tables { arrows.new.0 ≡ arrows.old.0 }
+        ensures base { arrows.new.2 ≡ arrows.old.2 }
         ensures grows { Grows arrows.old.1 arrows.new.1 }
         ensures chunks { OnOk result (numbers_in store.new ≡ numbers_in store.old) }
+        ensures stand { OnOk result (Stands arrows.new.2 self.new) }
         ensures at { IfOk result (λ done. (tokens : List TextToken) (index : ℕ)
             → IsLooking arrows.old.0 (store_of store.old) arrows.old.1 self.old tokens index token.now
             → IsStepped arrows.old.0 (store_of store.new) arrows.new.1 self.new tokens index token.now done) }
@@ -71,11 +75,14 @@ impl Leaf {
         requires tables { IsTables arrows.old.0 }
         requires chunk { HasChunk store.old chunk }
         requires token { token.now.id < 2 ^ 32 - 2 }
+        requires stand { Stands arrows.old.2 self.old }
         requires at { (tokens : List TextToken) × (index : ℕ) × (length tokens ≤ TEXT_BYTES)
             × IsLooking arrows.old.0 (store_of store.old) arrows.old.1 self.old tokens index token.now }
         ensures tables { arrows.new.0 ≡ arrows.old.0 }
+        ensures base { arrows.new.2 ≡ arrows.old.2 }
         ensures grows { Grows arrows.old.1 arrows.new.1 }
         ensures chunks { OnOk result (numbers_in store.new ≡ numbers_in store.old) }
+        ensures stand { OnOk result (Stands arrows.new.2 self.new) }
         ensures at { IfOk result (λ shifted. (tokens : List TextToken) (index : ℕ)
             → IsLooking arrows.old.0 (store_of store.old) arrows.old.1 self.old tokens index token.now
             → IsStepped arrows.old.0 (store_of store.new) arrows.new.1 self.new tokens index token.now (Some shifted)) }
@@ -103,11 +110,14 @@ impl Leaf {
         requires tables { IsTables arrows.old.0 }
         requires chunk { HasChunk store.old chunk }
         requires token { token.now.id < 2 ^ 32 - 2 }
+        requires stand { Stands arrows.old.2 self.old }
         requires at { (tokens : List TextToken) × (index : ℕ) × (length tokens ≤ TEXT_BYTES)
             × IsLooking arrows.old.0 (store_of store.old) arrows.old.1 self.old tokens index token.now }
         ensures tables { arrows.new.0 ≡ arrows.old.0 }
+        ensures base { arrows.new.2 ≡ arrows.old.2 }
         ensures grows { Grows arrows.old.1 arrows.new.1 }
         ensures chunks { OnOk result (numbers_in store.new ≡ numbers_in store.old) }
+        ensures stand { OnOk result (Stands arrows.new.2 self.new) }
         ensures at { OnOk result ((tokens : List TextToken) (index : ℕ)
             → IsLooking arrows.old.0 (store_of store.old) arrows.old.1 self.old tokens index token.now
             → IsBetween arrows.old.0 (store_of store.new) arrows.new.1 self.new tokens (index + 1)) }

@@ -25,7 +25,8 @@ use Rattle.segment_parser.specs.Working.{held_of, last_id, AreThere}
 use Rattle.segment_parser.specs.Standing.{last_in, piece_in, HasMaps}
 use Rattle.stack_join.specs.Joining.{over_id, IsTightIn}
 use Rattle.stack_join.specs.Landing.{IsCarriedBack}
-use Rattle.stack_join.proofs.EnterLemmas.{stays, entries_stay, entries_push}
+use Rattle.stack_join.proofs.EntryLemmas.{entries_stay, entries_push}
+use Rattle.stack_join.proofs.StandingLemmas.{map_stays}
 use Rattle.stack_join.proofs.HeldLemmas.{HasTop, has_top, top_of_push, kept_self, kept_push, tight_end, set_end, there_front, there_grow, entries_length}
 
 -- ---- nothing errs
@@ -123,7 +124,7 @@ entries_of {f} {maps} {mid} {new} {s} {after} {id} has lost = by s.ids.items ref
         last_entry top ids_are
         ((λ i. held_of new ((kids ∙ top.kids_are) i) (ids_are i)) ∙ entries_push new top.below top.low top.kid id top.even
         ∙ ap (λ l. l ++ record { kid = top.kid; states = map_at new id } ∷ []) (entries_stay maps new all_grow top.below top.low there)
-        ∙ ap (λ m. held_of maps top.below top.low ++ record { kid = top.kid; states = m } ∷ []) (stays mid new lost.grows_on id lost.within))
+        ∙ ap (λ m. held_of maps top.below top.low ++ record { kid = top.kid; states = m } ∷ []) (map_stays mid new lost.grows_on id lost.within))
 
 pub some_carried : {f : Floor} {maps mid new : List StateMap} {s after : Leaf} {id : ℕ} → HasMaps maps s → HasLost f maps mid new s after id → IsCarriedBack f maps new s after
 some_carried {f} {maps} {mid} {new} {s} {after} {id} has lost = record {
@@ -150,7 +151,7 @@ some_carried {f} {maps} {mid} {new} {s} {after} {id} has lost = record {
     tops = map_at maps (over_id s)
 
     same_starts : map_at mid s.starts ≡ map_at maps s.starts
-    same_starts = stays maps mid lost.grows s.starts has.starts
+    same_starts = map_stays maps mid lost.grows s.starts has.starts
 
     left_map : IsRising (map_at maps (over_id s)) → IsMapOf (λ q. option_and_then (clear_on f) (target (map_at maps (over_id s)) q)) (map_at mid id)
     left_map rising = subst (IsMapOf (λ q. option_and_then (clear_on f) (target (map_at maps (over_id s)) q))) (sym lost.left) (followed_law (λ q p. clear_on f p) (map_at maps (over_id s)) rising)

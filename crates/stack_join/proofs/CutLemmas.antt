@@ -14,7 +14,8 @@ use Rattle.segment_parser.specs.declared.leaf.Leaf.{Leaf}
 use Rattle.segment_parser.specs.Working.{held_of, AreThere, IsFreshAt, was_fresh, made_fresh}
 use Rattle.segment_parser.specs.Standing.{piece_in, HasMaps, SameButEntries}
 use Rattle.stack_join.specs.Landing.{IsCut}
-use Rattle.stack_join.proofs.EnterLemmas.{stays, entries_stay, entries_push}
+use Rattle.stack_join.proofs.EntryLemmas.{entries_stay, entries_push}
+use Rattle.stack_join.proofs.StandingLemmas.{map_stays}
 use Rattle.stack_join.proofs.HeldLemmas.{HasTop, has_top, entries_cut, entries_length, kept_self, kept_push, rising_front, tight_front, tight_end, set_end, there_front, there_grow}
 
 pub has_same : (maps new : List StateMap) (s after : Leaf) → HasMaps maps s → Grows maps new → after.starts ≡ s.starts → after.own ≡ s.own → length after.block.kids ≡ length after.ids.items → AreThere new after.ids.items → HasMaps new after
@@ -28,7 +29,7 @@ has_same maps new s after has grows starts own even there =
       starts = omega (arith, count, s1, starts);
       own = record {
         within = omega (arith, count, o1, own);
-        is = subst (λ m. IsIdentityOf m (map_at new after.own)) (sym (ap (map_at new) starts ∙ stays maps new grows s.starts has.starts)) (subst (IsIdentityOf (map_at maps s.starts)) (sym (ap (map_at new) own ∙ stays maps new grows s.own has.own.within)) has.own.is);
+        is = subst (λ m. IsIdentityOf m (map_at new after.own)) (sym (ap (map_at new) starts ∙ map_stays maps new grows s.starts has.starts)) (subst (IsIdentityOf (map_at maps s.starts)) (sym (ap (map_at new) own ∙ map_stays maps new grows s.own has.own.within)) has.own.is);
       };
     }
 
@@ -61,7 +62,7 @@ module _ (maps new : List StateMap) (s after : Leaf) (rest : ℕ) (has : HasMaps
   keep = held_of maps (take rest s.block.kids) (take rest s.ids.items)
 
   starts_same : map_at new after.starts ≡ map_at maps s.starts
-  starts_same = ap (map_at new) same.starts ∙ stays maps new grows s.starts has.starts
+  starts_same = ap (map_at new) same.starts ∙ map_stays maps new grows s.starts has.starts
 
   parts : (piece_in maps s).stack ≡ held_of maps (take rest s.block.kids) (take rest s.ids.items) ++ held_of maps (drop rest s.block.kids) (drop rest s.ids.items)
   parts = entries_cut maps s.block.kids s.ids.items rest (sym has.even)

@@ -14,7 +14,7 @@ use Rattle.piece_theory.specs.WellMade.{start_of, IsMade}
 use Rattle.piece_theory.proofs.FloorLemmas.{floors_law}
 use Rattle.entry_laws.proofs.EntryLemmas.{one_stack}
 use Rattle.segment_parser.specs.Working.{held_of}
-use Rattle.stack_join.specs.Entering.{AreEntered}
+use Rattle.segment_parser.specs.Entering.{AreEntered}
 
 pub entries_kids : (maps : List StateMap) (kids : List Kid) (ids : List ℕ) → length ids ≡ length kids → kids_of (held_of maps kids ids) ≡ kids
 entries_kids maps [] ids e = refl

@@ -21,7 +21,7 @@ use Rattle.landing_laws.specs.Carrying.{IsOverAlive}
 use Rattle.landing_laws.specs.Behind.{AreRising}
 use Rattle.arrow_table.specs.Looks.{Grows, map_at}
 use Rattle.segment_parser.specs.Working.{held_of, last_id, AreThere}
-use Rattle.stack_join.proofs.EnterLemmas.{entries_push}
+use Rattle.stack_join.proofs.EntryLemmas.{entries_push}
 use Rattle.stack_join.proofs.EnteredLemmas.{by_test}
 
 -- ---- entries in parts

@@ -38,7 +38,7 @@ use Rattle.segment_parser.specs.Working.{held_of}
 use Rattle.segment_parser.specs.Standing.{last_in, piece_in, HasMaps, SameButEntries}
 use Rattle.stack_join.specs.Joining.{over_id, IsTightIn, Met, IsLanding}
 use Rattle.stack_join.specs.Landing.{IsCarriedBack, IsCarriedOver, IsRaised, CanSupplyAll, IsSupplied, none_supplied, whole_supplied, part_supplied}
-use Rattle.stack_join.proofs.EnterLemmas.{stays}
+use Rattle.stack_join.proofs.StandingLemmas.{map_stays}
 use Rattle.stack_join.proofs.EnteredLemmas.{entries_kids}
 use Rattle.stack_join.proofs.HeldLemmas.{follow_rising, over_alive_of, kept_self, kept_over, kept_then, kept_rising, over_front, entries_cut, entries_length}
 
@@ -139,7 +139,7 @@ module _ {g : Grammar} {t : Tables} (lawful : IsLawfulFor g t) (lead : LeadFromS
 
   module _ {now : Store} {mid new : List StateMap} {one after : Leaf} (keep dropped : List Held) (parts : (piece_in maps s).stack ≡ keep ++ dropped) (many : length dropped ≡ hidden_of f.opened) (kids : TakesKids store now f.opened dropped) (grows : Grows maps mid) (has : HasMaps mid one) (same : SameButEntries s one) (count : one.count ≡ s.count) (kept : AreKeptFor (map_at maps s.starts) keep (piece_in mid one).stack) (tight : IsTightIn mid one) (back : IsCarriedBack f mid new one after) where
     starts_same : map_at mid one.starts ≡ map_at maps s.starts
-    starts_same = ap (map_at mid) same.starts ∙ stays maps mid grows s.starts at.has.starts
+    starts_same = ap (map_at mid) same.starts ∙ map_stays maps mid grows s.starts at.has.starts
 
     last_same : last_in mid one ≡ last_in maps s
     last_same = (λ i. record { opened = same.opened i; starts = starts_same i; faults = same.faults i })

@@ -1,5 +1,5 @@
-pub mod EnterLemmas
 pub mod EnteredLemmas
+pub mod EntryLemmas
 pub mod StandingLemmas
 pub mod SeamLemmas
 pub mod MeetLemmas
@@ -16,3 +16,4 @@ pub mod CutLemmas
 pub mod SupplyLemmas
 pub mod LandLemmas
 pub mod PileLemmas
+pub mod NumberLemmas

@@ -26,9 +26,10 @@ use Rattle.arrow_table.specs.Looks.{Grows, map_at}
 use Rattle.segment_parser.specs.declared.leaf.Leaf.{Leaf}
 use Rattle.segment_parser.specs.Working.{held_of, last_id, AreThere}
 use Rattle.segment_parser.specs.Standing.{last_in, piece_in, HasMaps}
-use Rattle.stack_join.specs.Entering.{IsKnown, AreEntered}
+use Rattle.segment_parser.specs.Entering.{IsKnown, AreEntered}
 use Rattle.stack_join.specs.Joining.{over_id, Met, IsLanding, IsPiled}
-use Rattle.stack_join.proofs.EnterLemmas.{stays, entries_stay}
+use Rattle.stack_join.proofs.EntryLemmas.{entries_stay}
+use Rattle.stack_join.proofs.StandingLemmas.{map_stays}
 use Rattle.stack_join.proofs.EnteredLemmas.{entries_kids}
 use Rattle.stack_join.proofs.HeldLemmas.{follow_rising, over_alive_of, entries_both, entries_length, there_grow}
 use Rattle.stack_join.proofs.CutLemmas.{has_same}
@@ -84,7 +85,7 @@ piled {g} {t} lawful lead {met} {store} {maps} {new} {s} {after} {kids} {ids} {t
 }
   where
     starts_same : map_at new after.starts ≡ map_at maps s.starts
-    starts_same = ap (map_at new) pushed.starts ∙ stays maps new pushed.grows s.starts at.has.starts
+    starts_same = ap (map_at new) pushed.starts ∙ map_stays maps new pushed.grows s.starts at.has.starts
 
     last_same : last_in new after ≡ last_in maps s
     last_same = (λ i. record { opened = pushed.opened i; starts = starts_same i; faults = pushed.faults i })

@@ -17,7 +17,7 @@ use Rattle.piece_theory.proofs.FloorLemmas.{floors_law}
 use Rattle.context_laws.specs.Contexts.{LeadFromStates}
 use Rattle.bare_theory.specs.Bare.{Bare, bare}
 use Rattle.state_sets.specs.Within.{AreWithin}
-use Rattle.stack_join.specs.Entering.{IsKnown}
+use Rattle.segment_parser.specs.Entering.{IsKnown}
 
 -- ---- the kids of well made entries have symbols
 

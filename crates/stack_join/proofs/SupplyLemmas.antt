@@ -17,7 +17,7 @@ use Rattle.segment_parser.specs.declared.leaf.Leaf.{Leaf}
 use Rattle.segment_parser.specs.Standing.{last_in}
 use Rattle.stack_finish.specs.Putting.{HidesMore}
 use Rattle.stack_join.specs.Landing.{CanSupply, IsRaised}
-use Rattle.stack_join.proofs.EnterLemmas.{stays}
+use Rattle.stack_join.proofs.StandingLemmas.{map_stays}
 
 hidden_parts : (a b n : ℕ) → n ≡ a + b → replicate n Hidden ≡ replicate a Hidden ++ replicate b Hidden
 hidden_parts zero b n e = ap (λ k. replicate k Hidden) (let f : n ≡ b = omega (arith, e) in f)
@@ -102,7 +102,7 @@ raised_by {t} {maps} {mid} {new} {s} {after} {opened} {still} {starts} inside ra
     grown = let n = ap length raised.grows.1 ∙ length-append mid raised.grows.0 in let less = there in omega (arith, n, less)
 
     same : map_at new after.starts ≡ map_at mid starts
-    same = ap (map_at new) raised.start ∙ stays mid new raised.grows starts there
+    same = ap (map_at new) raised.start ∙ map_stays mid new raised.grows starts there
 
     own : HasMap new after.own (IsIdentityOf (map_at new after.starts))
     own = record { within = raised.own.within; is = subst (λ m. IsIdentityOf m (map_at new after.own)) (sym same) raised.own.is }

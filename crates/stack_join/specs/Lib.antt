@@ -1,4 +1,3 @@
-pub mod Entering
 pub mod Joining
 pub mod Landing
 pub mod Putting

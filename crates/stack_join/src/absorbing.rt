@@ -12,6 +12,7 @@ ghost use Rattle.piece_lists.specs.Lists.{pieces_in, pieces_of};
 ghost use Rattle.seam_theory.specs.Seams.{IsSeam};
 ghost use Rattle.stack_join.specs.Joining.{IsAtSeam};
 ghost use Rattle.stack_join.specs.Putting.{AreAbsorbed, AreAllPut, IsPartPut};
+ghost use Rattle.segment_parser.specs.Numbers.{AllStand};
 
 use crate::entering::reopen;
 use crate::putting::put;
@@ -38,8 +39,11 @@ pub fn absorb_part(
     requires at { (front : List Piece) × (pieces : List Piece) × (rest : List Piece) × (w : List TextToken)
         × (length w ≤ TEXT_BYTES) × (bares pieces ≡ pieces_of part.old)
         × IsAtSeam arrows.old.0 (store_of store.old) arrows.old.1 leaf.old front (pieces ++ rest) w }
+    requires stand { AllStand arrows.old.2 leaf.old }
     ensures tables { arrows.new.0 ≡ arrows.old.0 }
+    ensures base { arrows.new.2 ≡ arrows.old.2 }
     ensures grows { Grows arrows.old.1 arrows.new.1 }
+    ensures stand { OnOk result (AllStand arrows.new.2 leaf.new) }
     ensures chunks { OnOk result (numbers_in store.new ≡ numbers_in store.old) }
     ensures closed { OnOk result (leaf.new.block.closed ≡ leaf.old.block.closed) }
     ensures kept { OnOk result (IsKept (store_of store.old) (store_of store.new)) }
@@ -84,8 +88,11 @@ fn absorb_all(
     requires at { (front : List Piece) × (rest : List Piece) × (w : List TextToken)
         × (length w ≤ TEXT_BYTES) × (bares rest ≡ pieces_in parts.old)
         × IsAtSeam arrows.old.0 (store_of store.old) arrows.old.1 leaf.old front rest w }
+    requires stand { AllStand arrows.old.2 leaf.old }
     ensures tables { arrows.new.0 ≡ arrows.old.0 }
+    ensures base { arrows.new.2 ≡ arrows.old.2 }
     ensures grows { Grows arrows.old.1 arrows.new.1 }
+    ensures stand { OnOk result (AllStand arrows.new.2 leaf.new) }
     ensures chunks { OnOk result (numbers_in store.new ≡ numbers_in store.old) }
     ensures closed { OnOk result (leaf.new.block.closed ≡ leaf.old.block.closed) }
     ensures kept { OnOk result (IsKept (store_of store.old) (store_of store.new)) }
@@ -118,6 +125,7 @@ pub fn absorb(
         × (length w ≤ TEXT_BYTES) × (block.closed ≡ others ++ bare last ∷ []) × (bares rest ≡ pieces_in parts.old)
         × IsSeam arrows.old.0 (store_of store.old) front last rest w }
     ensures tables { arrows.new.0 ≡ arrows.old.0 }
+    ensures base { arrows.new.2 ≡ arrows.old.2 }
     ensures grows { Grows arrows.old.1 arrows.new.1 }
     ensures chunks { OnOk result (numbers_in store.new ≡ numbers_in store.old) }
     ensures kept { OnOk result (IsKept (store_of store.old) (store_of store.new)) }

@@ -1,4 +1,4 @@
-ghost use Rattle.std.specs.Prelude.{◌≡◌, ℕ, ◌-◌, ◌<◌, ◌++◌, IfOk, OnOk, IsSome, IsTrue, Option, All, length, map, slice_set};
+ghost use Rattle.std.specs.Prelude.{◌≡◌, ℕ, ◌-◌, ◌<◌, ◌≤◌, ◌++◌, IfOk, OnOk, IsSome, IsTrue, false, Option, All, length, map, slice_set};
 ghost use Rattle.map_theory.specs.Relations.{IsIdentityOf, IsRestricted};
 ghost use Rattle.state_sets.specs.Classes.{targets_of};
 ghost use Rattle.arrow_table.specs.Looks.{Grows, HasMap, map_at};
@@ -7,6 +7,7 @@ ghost use Rattle.landing_laws.specs.Carrying.{carried_faults, clear_on};
 ghost use Rattle.segment_parser.specs.Standing.{HasMaps};
 ghost use Rattle.stack_join.specs.Joining.{over_id};
 ghost use Rattle.stack_join.specs.Landing.{IsCarriedBack};
+ghost use Rattle.segment_parser.specs.Numbers.{AllStand, AreFrom};
 
 use arrow_table::{ArrowId, Arrows};
 use lr_base::{NoMemory, StateId};
@@ -86,7 +87,8 @@ fn clear_states(
 
 /// Whether none is missing.
 fn all_stay(images: &[Option<StateId>]) -> bool
-    ensures { IsTrue result → All {X = Option ℕ} (λ image. IsSome image) images.now }
+    ensures all { IsTrue result → All {X = Option ℕ} (λ image. IsSome image) images.now }
+    ensures some { result ≡ false → ¬ (All {X = Option ℕ} (λ image. IsSome image) images.now) }
 {
     for image in images {
         if image.is_none() {
@@ -114,12 +116,16 @@ fn lose(
     left: ArrowId,
 ) -> Result<(), NoMemory>
     requires starts { leaf.old.starts < length arrows.old.1 }
+    requires starts_stand { arrows.old.2 ≤ leaf.old.starts }
     requires left { left < length arrows.old.1 }
+    requires left_stands { arrows.old.2 ≤ left }
     ensures tables { arrows.new.0 ≡ arrows.old.0 }
+    ensures base { arrows.new.2 ≡ arrows.old.2 }
     ensures grows { Grows arrows.old.1 arrows.new.1 }
     ensures starts { OnOk result (HasMap arrows.new.1 leaf.new.starts
         (IsRestricted (map_at arrows.old.1 leaf.old.starts) (map_at arrows.old.1 left))) }
     ensures own { OnOk result (HasMap arrows.new.1 leaf.new.own (IsIdentityOf (map_at arrows.new.1 leaf.new.starts))) }
+    ensures stand { OnOk result (AreFrom arrows.old.2 leaf.old.ids.items → AllStand arrows.new.2 leaf.new) }
     ensures ids { OnOk result (leaf.new.ids.items ≡ slice_set leaf.old.ids.items (length leaf.old.ids.items - 1) left) }
     ensures stale { OnOk result (leaf.new.stale ≡ length leaf.old.ids.items - 1) }
     ensures same { OnOk result ((leaf.new.block ≡ leaf.old.block) × (leaf.new.faults ≡ leaf.old.faults)
@@ -142,9 +148,12 @@ pub fn carry(
     arrows: &mut Arrows<'_>,
     floor: &Floor,
 ) -> Result<(), NoMemory>
-    requires { HasMaps arrows.old.1 leaf.old }
+    requires has { HasMaps arrows.old.1 leaf.old }
+    requires stand { AllStand arrows.old.2 leaf.old }
     ensures tables { arrows.new.0 ≡ arrows.old.0 }
+    ensures base { arrows.new.2 ≡ arrows.old.2 }
     ensures grows { Grows arrows.old.1 arrows.new.1 }
+    ensures stand { OnOk result (AllStand arrows.new.2 leaf.new) }
     ensures carried { OnOk result (IsCarriedBack floor.now arrows.old.1 arrows.new.1 leaf.old leaf.new) }
 {
     class_laws();

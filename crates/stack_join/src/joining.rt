@@ -41,6 +41,7 @@ pub fn join(
         × AreBarePiecesOf arrows.old.0 (store_of left.store) left.closed tokens
         × AreBarePiecesOf arrows.old.0 (store_of right.store) right.closed more }
     ensures tables { arrows.new.0 ≡ arrows.old.0 }
+    ensures base { arrows.new.2 ≡ arrows.old.2 }
     ensures grows { Grows arrows.old.1 arrows.new.1 }
     ensures pieces { IfOk result (λ joined. (tokens more : List TextToken)
         → AreBarePiecesOf arrows.old.0 (store_of left.store) left.closed tokens
@@ -82,6 +83,7 @@ fn put_together(
         × AreBarePiecesOf arrows.old.0 first (pieces_in parts.old.items) tokens
         × AreBarePiecesOf arrows.old.0 second (pieces_in others.old) more }
     ensures tables { arrows.new.0 ≡ arrows.old.0 }
+    ensures base { arrows.new.2 ≡ arrows.old.2 }
     ensures grows { Grows arrows.old.1 arrows.new.1 }
     ensures chunks { OnOk result (numbers_in store.new ≡ numbers_in store.old) }
     ensures kept { OnOk result (IsKept (store_of store.old) (store_of store.new)) }

@@ -12,6 +12,7 @@ ghost use Rattle.arrow_table.specs.Looks.{Grows};
 ghost use Rattle.segment_parser.specs.Standing.{HasMaps};
 ghost use Rattle.stack_join.specs.Joining.{IsLanding, Met};
 ghost use Rattle.stack_join.specs.Landing.{CanSupply, CanSupplyAll, IsCut, IsRaised, IsSupplied};
+ghost use Rattle.segment_parser.specs.Numbers.{AllStand};
 
 use crate::carrying::carry;
 use arrow_table::Arrows;
@@ -26,8 +27,11 @@ use std::alloc::Global;
 fn cut(leaf: &mut Leaf, alloc: Global, arrows: &mut Arrows<'_>, rest: usize) -> Result<(), NoMemory>
     requires has { HasMaps arrows.old.1 leaf.old }
     requires rest { rest ≤ length leaf.old.ids.items }
+    requires stand { AllStand arrows.old.2 leaf.old }
     ensures tables { arrows.new.0 ≡ arrows.old.0 }
+    ensures base { arrows.new.2 ≡ arrows.old.2 }
     ensures grows { Grows arrows.old.1 arrows.new.1 }
+    ensures stand { OnOk result (AllStand arrows.new.2 leaf.new) }
     ensures cut { OnOk result (IsCut arrows.old.1 arrows.new.1 leaf.old leaf.new rest) }
 {
     let taken = leaf.ids.len() - rest;
@@ -52,8 +56,11 @@ fn raise(
     requires has { HasMaps arrows.old.1 leaf.old }
     requires rule { opened.now.rule < length arrows.old.0.rules }
     requires fewer { (n : ℕ) (right : List Sym) → IsRule arrows.old.0.rules opened.now.rule n right → still ≤ length right }
+    requires stand { AllStand arrows.old.2 leaf.old }
     ensures tables { arrows.new.0 ≡ arrows.old.0 }
+    ensures base { arrows.new.2 ≡ arrows.old.2 }
     ensures grows { Grows arrows.old.1 arrows.new.1 }
+    ensures stand { OnOk result (AllStand arrows.new.2 leaf.new) }
     ensures raised { OnOk result (IsRaised arrows.old.0 arrows.old.1 arrows.new.1 leaf.old leaf.new opened.now still) }
 {
     let held = leaf.ids.len();
@@ -84,8 +91,11 @@ fn supply_opened(
 ) -> Result<(), NoMemory>
     requires has { HasMaps arrows.old.1 leaf.old }
     requires can { CanSupply arrows.old.0 (store_of store.old) leaf.old opened.now }
+    requires stand { AllStand arrows.old.2 leaf.old }
     ensures tables { arrows.new.0 ≡ arrows.old.0 }
+    ensures base { arrows.new.2 ≡ arrows.old.2 }
     ensures grows { Grows arrows.old.1 arrows.new.1 }
+    ensures stand { OnOk result (AllStand arrows.new.2 leaf.new) }
     ensures chunks { OnOk result (numbers_in store.new ≡ numbers_in store.old) }
     ensures supplied { OnOk result (IsSupplied arrows.old.0 (store_of store.old) (store_of store.new) arrows.old.1
         arrows.new.1 leaf.old leaf.new (Some opened.now)) }
@@ -114,8 +124,11 @@ fn supply(
 ) -> Result<(), NoMemory>
     requires has { HasMaps arrows.old.1 leaf.old }
     requires can { CanSupplyAll arrows.old.0 (store_of store.old) leaf.old opened }
+    requires stand { AllStand arrows.old.2 leaf.old }
     ensures tables { arrows.new.0 ≡ arrows.old.0 }
+    ensures base { arrows.new.2 ≡ arrows.old.2 }
     ensures grows { Grows arrows.old.1 arrows.new.1 }
+    ensures stand { OnOk result (AllStand arrows.new.2 leaf.new) }
     ensures chunks { OnOk result (numbers_in store.new ≡ numbers_in store.old) }
     ensures supplied { OnOk result (IsSupplied arrows.old.0 (store_of store.old) (store_of store.new) arrows.old.1
         arrows.new.1 leaf.old leaf.new opened) }
@@ -139,8 +152,11 @@ pub fn land(
     requires lead { LeadFromStates arrows.old.0 }
     requires at { (met : Met) × (further : List FloorParts)
         × IsLanding arrows.old.0 met (store_of store.old) arrows.old.1 leaf.old (floor.now ∷ further) }
+    requires stand { AllStand arrows.old.2 leaf.old }
     ensures tables { arrows.new.0 ≡ arrows.old.0 }
+    ensures base { arrows.new.2 ≡ arrows.old.2 }
     ensures grows { Grows arrows.old.1 arrows.new.1 }
+    ensures stand { OnOk result (AllStand arrows.new.2 leaf.new) }
     ensures chunks { OnOk result (numbers_in store.new ≡ numbers_in store.old) }
     ensures closed { OnOk result (leaf.new.block.closed ≡ leaf.old.block.closed) }
     ensures at { OnOk result ((met : Met) (further : List FloorParts)

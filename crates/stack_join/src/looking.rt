@@ -8,6 +8,7 @@ ghost use Rattle.node_store.specs.Chunks.{HasChunk, numbers_in, store_of};
 ghost use Rattle.arrow_table.specs.Looks.{Grows};
 ghost use Rattle.stack_join.specs.Joining.{IsAtSeam, IsDecided};
 ghost use Rattle.stack_join.specs.Putting.{IsSettling};
+ghost use Rattle.segment_parser.specs.Numbers.{AllStand};
 
 use arrow_table::{Arrows, Look};
 use lr_base::{NoMemory, Token};
@@ -31,8 +32,11 @@ fn look(
     requires at { (front : List Piece) × (right : Piece) × (rest : List Piece) × (w : List TextToken)
         × (right.first ≡ token.now)
         × IsAtSeam arrows.old.0 (store_of store.old) arrows.old.1 leaf.old front (right ∷ rest) w }
+    requires stand { AllStand arrows.old.2 leaf.old }
     ensures tables { arrows.new.0 ≡ arrows.old.0 }
+    ensures base { arrows.new.2 ≡ arrows.old.2 }
     ensures grows { Grows arrows.old.1 arrows.new.1 }
+    ensures stand { OnOk result (AllStand arrows.new.2 leaf.new) }
     ensures chunks { OnOk result (numbers_in store.new ≡ numbers_in store.old) }
     ensures closed { OnOk result (leaf.new.block.closed ≡ leaf.old.block.closed) }
     ensures more { OnOk result (HasMore (store_of store.old) (store_of store.new)) }
@@ -74,8 +78,11 @@ pub fn settle(
     requires at { (front : List Piece) × (right : Piece) × (rest : List Piece) × (w : List TextToken)
         × (right.first ≡ token.now)
         × IsAtSeam arrows.old.0 (store_of store.old) arrows.old.1 leaf.old front (right ∷ rest) w }
+    requires stand { AllStand arrows.old.2 leaf.old }
     ensures tables { arrows.new.0 ≡ arrows.old.0 }
+    ensures base { arrows.new.2 ≡ arrows.old.2 }
     ensures grows { Grows arrows.old.1 arrows.new.1 }
+    ensures stand { OnOk result (AllStand arrows.new.2 leaf.new) }
     ensures chunks { OnOk result (numbers_in store.new ≡ numbers_in store.old) }
     ensures closed { OnOk result (leaf.new.block.closed ≡ leaf.old.block.closed) }
     ensures more { OnOk result (HasMore (store_of store.old) (store_of store.new)) }

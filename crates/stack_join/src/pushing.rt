@@ -5,14 +5,14 @@ ghost use Rattle.piece_theory.specs.Pieces.{kids_of};
 ghost use Rattle.node_store.specs.Chunks.{store_of};
 ghost use Rattle.arrow_table.specs.Looks.{Grows};
 ghost use Rattle.stack_join.specs.Joining.{IsLanding, IsPiled, Met};
+ghost use Rattle.segment_parser.specs.Numbers.{AllStand};
 
 use crate::carrying::over;
-use crate::entering::enter;
 use arrow_table::Arrows;
 use lr_base::NoMemory;
 use node_store::{PackedKid, Store};
 use piece_blocks::Block;
-use segment_parser::Leaf;
+use segment_parser::{Leaf, enter};
 use std::alloc::Global;
 
 /// The open piece of a block gets these kids behind its own.
@@ -42,8 +42,11 @@ pub fn push_kids(
     requires few { leaf.old.count + tokens < 2 ^ 32 }
     requires at { (met : Met) × IsLanding arrows.old.0 met (store_of store.now) arrows.old.1 leaf.old []
         × (kids.now ≡ kids_of met.right.stack) × (tokens ≡ met.right.count) }
+    requires stand { AllStand arrows.old.2 leaf.old }
     ensures tables { arrows.new.0 ≡ arrows.old.0 }
+    ensures base { arrows.new.2 ≡ arrows.old.2 }
     ensures grows { Grows arrows.old.1 arrows.new.1 }
+    ensures stand { OnOk result (AllStand arrows.new.2 leaf.new) }
     ensures closed { OnOk result (leaf.new.block.closed ≡ leaf.old.block.closed) }
     ensures at { OnOk result ((met : Met) → IsLanding arrows.old.0 met (store_of store.now) arrows.old.1 leaf.old []
         → kids.now ≡ kids_of met.right.stack → tokens ≡ met.right.count

@@ -11,6 +11,7 @@ ghost use Rattle.node_store.specs.Chunks.{HasChunk, numbers_in, store_of};
 ghost use Rattle.arrow_table.specs.Looks.{Grows};
 ghost use Rattle.stack_join.specs.Joining.{IsAtSeam, IsLanding, Met};
 ghost use Rattle.stack_join.specs.Putting.{IsPut};
+ghost use Rattle.segment_parser.specs.Numbers.{AllStand};
 
 use crate::landing::land;
 use crate::looking::settle;
@@ -33,8 +34,11 @@ fn land_all(
     requires lawful { IsLawful arrows.old.0 }
     requires lead { LeadFromStates arrows.old.0 }
     requires at { (met : Met) × IsLanding arrows.old.0 met (store_of store.old) arrows.old.1 leaf.old floors.now }
+    requires stand { AllStand arrows.old.2 leaf.old }
     ensures tables { arrows.new.0 ≡ arrows.old.0 }
+    ensures base { arrows.new.2 ≡ arrows.old.2 }
     ensures grows { Grows arrows.old.1 arrows.new.1 }
+    ensures stand { OnOk result (AllStand arrows.new.2 leaf.new) }
     ensures chunks { OnOk result (numbers_in store.new ≡ numbers_in store.old) }
     ensures closed { OnOk result (leaf.new.block.closed ≡ leaf.old.block.closed) }
     ensures at { OnOk result ((met : Met) → IsLanding arrows.old.0 met (store_of store.old) arrows.old.1 leaf.old floors.now
@@ -65,8 +69,11 @@ pub fn put(
         × (length w ≤ TEXT_BYTES)
         × (bare right ≡ record { first = first.now; count = tokens; floors = floors.now; kids = kids.now })
         × IsAtSeam arrows.old.0 (store_of store.old) arrows.old.1 leaf.old front (right ∷ rest) w }
+    requires stand { AllStand arrows.old.2 leaf.old }
     ensures tables { arrows.new.0 ≡ arrows.old.0 }
+    ensures base { arrows.new.2 ≡ arrows.old.2 }
     ensures grows { Grows arrows.old.1 arrows.new.1 }
+    ensures stand { OnOk result (AllStand arrows.new.2 leaf.new) }
     ensures chunks { OnOk result (numbers_in store.new ≡ numbers_in store.old) }
     ensures closed { OnOk result (leaf.new.block.closed ≡ leaf.old.block.closed) }
     ensures kept { OnOk result (IsKept (store_of store.old) (store_of store.new)) }

@@ -32,8 +32,8 @@ absorb_all-requires-clause-at c =
     let before : IsAtSeam c.reopen.new.arrows.0 store maps leaf front rest w = subst (λ x. IsAtSeam x store maps leaf front rest w) (sym c.reopen.ensures.tables) at in
     (front, rest, w, c.requires.at.5, same, before)
 
-pub close-requires : goal.close-requires
-close-requires c =
+pub close-requires-clause-starts : goal.close-requires-clause-starts
+close-requires-clause-starts c =
     let front = c.requires.at.0 in
     let last = c.requires.at.1 in
     let rest = c.requires.at.2 in

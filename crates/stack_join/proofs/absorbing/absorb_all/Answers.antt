@@ -17,6 +17,8 @@ use Rattle.stack_join.proofs.absorbing.absorb_all.Goals as goal
 pub loop-part-init : goal.loop-part-init
 loop-part-init c = record {
   tables = refl;
+  base = refl;
+  stand = c.requires.stand;
   grows = ([], sym (append-nil c.args.arrows.now.1));
   chunks = refl;
   closed = refl;
@@ -80,6 +82,8 @@ returns-then-not-branch-clause-at c front rest w same at =
 pub loop-part-preserved : goal.loop-part-preserved
 loop-part-preserved c = record {
   tables = c.absorb_part.ensures.tables ∙ c.loop-part.invariant.tables;
+  base = c.absorb_part.ensures.base ∙ c.loop-part.invariant.base;
+  stand = c.in_ok-absorb_part.ensures.stand;
   grows = more_then c.args.arrows.now.1 c.loop-part.arrows.1 c.absorb_part.new.arrows.1 c.loop-part.invariant.grows c.absorb_part.ensures.grows;
   chunks = c.in_ok-absorb_part.ensures.chunks ∙ c.loop-part.invariant.chunks;
   closed = c.in_ok-absorb_part.ensures.closed ∙ c.loop-part.invariant.closed;

@@ -18,6 +18,8 @@ use Rattle.stack_join.proofs.absorbing.absorb_part.Goals as goal
 pub loop-index-init : goal.loop-index-init
 loop-index-init c = record {
   tables = refl;
+  base = refl;
+  stand = c.requires.stand;
   grows = ([], sym (append-nil c.args.arrows.now.1));
   chunks = refl;
   closed = refl;
@@ -86,6 +88,8 @@ returns-then-not-is_put-clause-at c front pieces rest w same at =
 pub loop-index-preserved : goal.loop-index-preserved
 loop-index-preserved c = record {
   tables = c.put.ensures.tables ∙ c.loop-index.invariant.tables;
+  base = c.put.ensures.base ∙ c.loop-index.invariant.base;
+  stand = c.in_ok-is_put.ensures.stand;
   grows = more_then c.args.arrows.now.1 c.loop-index.arrows.1 c.put.new.arrows.1 c.loop-index.invariant.grows c.put.ensures.grows;
   chunks = c.in_ok-is_put.ensures.chunks ∙ c.loop-index.invariant.chunks;
   closed = c.in_ok-is_put.ensures.closed ∙ c.loop-index.invariant.closed;

@@ -10,7 +10,7 @@ use Rattle.node_store.specs.Chunks.{store_of}
 use Rattle.state_sets.specs.Within.{AreWithin}
 use Rattle.arrow_table.specs.Looks.{HasMap, map_at}
 use Rattle.segment_parser.specs.Working.{held_of}
-use Rattle.stack_join.specs.Entering.{AreEntered, IsKnown}
+use Rattle.segment_parser.specs.Entering.{AreEntered, IsKnown}
 use Rattle.stack_join.proofs.EnteredLemmas.{entered_same}
 use Rattle.stack_join.proofs.StandingLemmas.{map_later, map_stays, more_then, there_later}
 use Rattle.stack_join.proofs.ReopenLemmas.{kids_known, same_last, starts_within}

@@ -1,10 +1,12 @@
-use Rattle.std.proofs.Common.{◌≡◌, ◌<◌, ◌-◌, ℕ, [], length, take, drop, refl, sym, ap, ◌∙◌, subst, append-nil, arith}
+use Rattle.std.proofs.Common.{◌≡◌, ◌<◌, ◌≤◌, ◌-◌, ℕ, [], length, get_or, take, drop, refl, sym, ap, ◌∙◌, subst, append-nil, arith}
 use Rattle.std.proofs.lemmas.List.{length-take, take-append-drop}
 use Rattle.segment_parser.specs.declared.leaf.Leaf.{Leaf}
 use Rattle.segment_parser.specs.Working.{AreThere, IsFreshAt}
 use Rattle.stack_join.specs.Landing.{IsCut}
 use Rattle.stack_join.proofs.HeldLemmas.{there_front}
 use Rattle.stack_join.proofs.CutLemmas.{cut_all, cut_some}
+use Rattle.stack_join.proofs.NumberLemmas.{from_first}
+use Rattle.segment_parser.specs.Numbers.{AreFrom}
 use Rattle.stack_join.proofs.landing.cut.Goals as goal
 
 pub freshen-requires-clause-depth : goal.freshen-requires-clause-depth
@@ -52,3 +54,34 @@ returns-clause-cut c =
     cut_some maps new s after c.args.rest c.requires.has c.freshen.ensures.grows
     (record { floors = same.floors ∙ c.drop_kids.ensures.floors; closed = same.closed ∙ c.drop_kids.ensures.closed; faults = same.faults; opened = same.opened; starts = same.starts; own = same.own; first = same.first })
     c.freshen.ensures.count some less (ap (λ b. b.kids) c.freshen.ensures.block ∙ c.drop_kids.ensures.kids ∙ ap (λ n. take n s.block.kids) left) fresh
+
+pub freshen-requires-clause-stands : goal.freshen-requires-clause-stands
+freshen-requires-clause-stands c =
+    let base = c.args.arrows.now.2 in
+    let ids = c.args.leaf.now.ids.items in
+    let less = c.requires.rest in
+    let count = length-take c.args.rest ids in
+    let some : 0 < c.args.rest = omega arith in
+    let inside : c.args.rest - 1 < length (take c.args.rest ids) = omega (arith, less, count, some) in
+    subst (λ l. base ≤ get_or l (c.args.rest - 1) 0) (sym c.truncate.ensures.items) (from_first base c.args.rest ids c.requires.stand.entries (c.args.rest - 1) 0 inside)
+
+pub returns-then-rest-eq0-clause-stand : goal.returns-then-rest-eq0-clause-stand
+returns-then-rest-eq0-clause-stand c =
+    let base = c.args.arrows.now.2 in
+    record {
+      starts = c.requires.stand.starts;
+      own = c.requires.stand.own;
+      entries = subst (λ l. AreFrom base l) (sym c.truncate.ensures.items) (from_first base c.args.rest c.args.leaf.now.ids.items c.requires.stand.entries);
+    }
+
+pub returns-clause-stand : goal.returns-clause-stand
+returns-clause-stand c =
+    let was = c.args.arrows.now.2 in
+    let base = c.freshen.new.arrows.2 in
+    let same = c.freshen.ensures.same in
+    let before : AreFrom was c.truncate.new.self.items = subst (λ l. AreFrom was l) (sym c.truncate.ensures.items) (from_first was c.args.rest c.args.leaf.now.ids.items c.requires.stand.entries) in
+    record {
+      starts = subst (λ n. base ≤ n) (sym same.starts) (subst (λ b. b ≤ c.args.leaf.now.starts) (sym c.freshen.ensures.base) c.requires.stand.starts);
+      own = subst (λ n. base ≤ n) (sym same.own) (subst (λ b. b ≤ c.args.leaf.now.own) (sym c.freshen.ensures.base) c.requires.stand.own);
+      entries = c.in_ok-freshen.ensures.levels before;
+    }

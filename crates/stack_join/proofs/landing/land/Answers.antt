@@ -8,8 +8,8 @@ supply-requires-clause-can c = can_supply c.requires.lawful.1 c.requires.lead c.
 pub supply-requires-clause-has : goal.supply-requires-clause-has
 supply-requires-clause-has c = c.requires.at.2.has
 
-pub carry-requires : goal.carry-requires
-carry-requires c = supplied_has c.requires.at.2.has c.in_ok-supply.ensures.supplied
+pub carry-requires-clause-has : goal.carry-requires-clause-has
+carry-requires-clause-has c = supplied_has c.requires.at.2.has c.in_ok-supply.ensures.supplied
 
 pub returns-clause-closed : goal.returns-clause-closed
 returns-clause-closed c = ap (λ b. b.closed) c.in_ok-carry.ensures.carried.block ∙ supplied_closed c.in_ok-supply.ensures.supplied

@@ -1,14 +1,16 @@
-use Rattle.std.proofs.Common.{◌≡◌, ◌-◌, ◌<◌, ◌++◌, ◌∷◌, [], ℕ, List, Option, Some, length, take, refl, sym, ap, ◌∙◌, subst, arith}
+use Rattle.std.proofs.Common.{◌≡◌, ◌-◌, ◌<◌, ◌≤◌, ◌++◌, ◌∷◌, [], ℕ, List, Option, Some, length, take, refl, sym, ap, ◌∙◌, subst, arith}
 use Rattle.map_theory.specs.Relations.{IsBack}
 use Rattle.grammar_theory.specs.Rules.{IsRule}
 use Rattle.piece_theory.specs.Pieces.{Floor, Opened}
 use Rattle.arrow_table.specs.Looks.{HasMap, map_at}
 use Rattle.segment_parser.specs.Standing.{last_in}
 use Rattle.stack_join.proofs.SupplyLemmas.{first_rule, raised_by}
+use Rattle.segment_parser.specs.Numbers.{AreFrom}
+use Rattle.stack_join.proofs.NumberLemmas.{from_none}
 use Rattle.stack_join.proofs.landing.raise.Goals as goal
 
-pub identity-requires : goal.identity-requires
-identity-requires c =
+pub identity-requires-clause-id : goal.identity-requires-clause-id
+identity-requires-clause-id c =
     let same = ap (λ (o : Opened). o.rule) c.opened.view_is in
     let rule = first_rule c.args.arrows.now.0 c.opened.inside.rule (subst (λ (r : ℕ). r < length c.args.arrows.now.0.rules) (sym same) c.requires.rule) in
     (c.in_ok-starts.ensures.back rule.0 rule.1 rule.2).within
@@ -36,4 +38,13 @@ returns-clause-raised c =
       stale = refl;
       first = put.same.4;
       count = put.same.5;
+    }
+
+pub returns-clause-stand : goal.returns-clause-stand
+returns-clause-stand c =
+    let base = c.identity.new.self.2 in
+    record {
+      starts = subst (λ b. b ≤ c.in_ok-starts.starts) (sym c.identity.ensures.base) c.in_ok-starts.ensures.stands;
+      own = c.in_ok-own.ensures.stands;
+      entries = subst (λ l. AreFrom base l) (sym c.clear.ensures.items) (from_none base);
     }

@@ -8,7 +8,7 @@ use Rattle.stack_join.proofs.StandingLemmas.{more_then}
 use Rattle.stack_join.proofs.looking.settle.Goals as goal
 
 pub loop-init : goal.loop-init
-loop-init c = record { tables = refl; grows = ([], sym (append-nil c.args.arrows.now.1)); chunks = refl; closed = refl; more = λ m r kids here. here; at = λ front right rest w first at. at }
+loop-init c = record { tables = refl; base = refl; stand = c.requires.stand; grows = ([], sym (append-nil c.args.arrows.now.1)); chunks = refl; closed = refl; more = λ m r kids here. here; at = λ front right rest w first at. at }
 
 pub look-requires-clause-lawful : goal.look-requires-clause-lawful
 look-requires-clause-lawful c = subst IsLawful (sym c.loop.invariant.tables) c.requires.lawful
@@ -28,6 +28,8 @@ look-requires-clause-at c =
 pub loop-preserved : goal.loop-preserved
 loop-preserved c = record {
   tables = c.look.ensures.tables ∙ c.loop.invariant.tables;
+  base = c.look.ensures.base ∙ c.loop.invariant.base;
+  stand = c.in_ok-shifts.ensures.stand;
   grows = more_then c.args.arrows.now.1 c.loop.arrows.1 c.look.new.arrows.1 c.loop.invariant.grows c.look.ensures.grows;
   chunks = c.in_ok-shifts.ensures.chunks ∙ c.loop.invariant.chunks;
   closed = c.in_ok-shifts.ensures.closed ∙ c.loop.invariant.closed;

@@ -1,9 +1,11 @@
-use Rattle.std.proofs.Common.{ℕ, ◌<◌, length, sym, subst, refl}
+use Rattle.std.proofs.Common.{ℕ, ◌<◌, ◌≤◌, length, sym, subst, refl}
 use Rattle.map_theory.specs.Maps.{target}
 use Rattle.node_store.specs.Chunks.{store_of}
 use Rattle.arrow_table.specs.Looks.{map_at}
-use Rattle.stack_join.specs.Entering.{AreEntered}
+use Rattle.segment_parser.specs.Entering.{AreEntered}
 use Rattle.stack_join.proofs.PileLemmas.{known_right, over_there, piled}
+use Rattle.stack_join.proofs.NumberLemmas.{from_both, over_stands}
+use Rattle.segment_parser.specs.Numbers.{AreFrom}
 use Rattle.stack_join.proofs.pushing.push_kids.Goals as goal
 
 pub enter-requires-clause-own : goal.enter-requires-clause-own
@@ -29,4 +31,17 @@ returns-clause-at c met at kids tokens =
       stale = refl;
       first = refl;
       count = refl;
+    }
+
+pub enter-requires-clause-stands : goal.enter-requires-clause-stands
+enter-requires-clause-stands c = subst (λ n. c.args.arrows.now.2 ≤ n) (sym c.over.ensures) (over_stands c.args.arrows.now.2 c.args.leaf.now c.requires.stand)
+
+pub returns-clause-stand : goal.returns-clause-stand
+returns-clause-stand c =
+    let base = c.enter.new.arrows.2 in
+    let was = c.args.arrows.now.2 in
+    record {
+      starts = subst (λ b. b ≤ c.args.leaf.now.starts) (sym c.enter.ensures.base) c.requires.stand.starts;
+      own = subst (λ b. b ≤ c.args.leaf.now.own) (sym c.enter.ensures.base) c.requires.stand.own;
+      entries = subst (λ l. AreFrom base l) (sym c.in_ok-append.ensures.items) (from_both base c.args.leaf.now.ids.items c.in_ok-ids.ids.items (subst (λ b. AreFrom b c.args.leaf.now.ids.items) (sym c.enter.ensures.base) c.requires.stand.entries) c.in_ok-ids.ensures.stand);
     }

@@ -9,7 +9,7 @@ use Rattle.stack_join.proofs.PartLemmas.{next_item}
 use Rattle.stack_join.proofs.putting.land_all.Goals as goal
 
 pub loop-floor-init : goal.loop-floor-init
-loop-floor-init c = record { tables = refl; grows = ([], sym (append-nil c.args.arrows.now.1)); chunks = refl; closed = refl; at = λ met at. at }
+loop-floor-init c = record { tables = refl; base = refl; stand = c.requires.stand; grows = ([], sym (append-nil c.args.arrows.now.1)); chunks = refl; closed = refl; at = λ met at. at }
 
 pub land-requires-clause-lawful : goal.land-requires-clause-lawful
 land-requires-clause-lawful c = subst IsLawful (sym c.loop-floor.invariant.tables) c.requires.lawful
@@ -30,6 +30,8 @@ loop-floor-preserved c =
     let ahead = next_item c.args.floors.now c.loop-floor.floor-index c.floor-item.result c.loop-floor-test.true c.floor-item.is in
     record {
       tables = c.land.ensures.tables ∙ c.loop-floor.invariant.tables;
+      base = c.land.ensures.base ∙ c.loop-floor.invariant.base;
+      stand = c.in_ok-land.ensures.stand;
       grows = more_then c.args.arrows.now.1 c.loop-floor.arrows.1 c.land.new.arrows.1 c.loop-floor.invariant.grows c.land.ensures.grows;
       chunks = c.in_ok-land.ensures.chunks ∙ c.loop-floor.invariant.chunks;
       closed = c.in_ok-land.ensures.closed ∙ c.loop-floor.invariant.closed;

@@ -28,9 +28,9 @@ one_changes old filled row column place cell known width cells inside at within 
 pub returns-clause-others : goal.returns-clause-others
 returns-clause-others c =
     let filled : Rows = (c.self-2.inside.width, c.self-2.inside.cells.items) in
-    let place : ℕ = c.place.result * c.self.inside.width + c.args.column in
+    let place : ℕ = c.args.row * c.self.inside.width + c.args.column in
     let width : filled.0 ≡ c.args.self.now.0 = cc (c.fill.ensures.width, ap (λ (s : Rows). s.0) c.self-2.view_is, ap (λ (s : Rows). s.0) c.self.view_is) in
-    let at : place ≡ c.args.row * c.args.self.now.0 + c.args.column = cc (c.place.ensures, ap (λ (s : Rows). s.0) c.self.view_is) in
+    let at : place ≡ c.args.row * c.args.self.now.0 + c.args.column = ap (λ n. c.args.row * n + c.args.column) (ap (λ (s : Rows). s.0) c.self.view_is) in
     let within : place < length filled.1 = omega (arith, c.in_ok-fill.ensures.there, ap (λ (s : Rows). length s.1) c.self-2.view_is) in
     one_changes c.args.self.now filled c.args.row c.args.column place c.in-Some.cell c.args.known width
     (λ i. cc (c.fill.ensures.cells i, ap (λ (s : Rows). get_or s.1 i Nothing) c.self-2.view_is, ap (λ (s : Rows). get_or s.1 i Nothing) c.self.view_is))

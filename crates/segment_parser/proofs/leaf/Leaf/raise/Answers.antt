@@ -4,8 +4,8 @@ use Rattle.arrow_table.specs.Looks.{HasMap, map_at}
 use Rattle.segment_parser.proofs.HeldLemmas.{stays_at, has_grows, rule_there}
 use Rattle.segment_parser.proofs.leaf.Leaf.raise.Goals as goal
 
-pub identity-requires : goal.identity-requires
-identity-requires c =
+pub identity-requires-clause-id : goal.identity-requires-clause-id
+identity-requires-clause-id c =
     let rule = rule_there c.args.arrows.now.0.rules c.args.rule c.requires.rule in
     (c.in_ok-starts.ensures.back rule.0 rule.1 rule.2).within
 

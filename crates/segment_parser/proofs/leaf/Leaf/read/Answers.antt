@@ -8,8 +8,8 @@ pub returns-then-branch-clause-at : goal.returns-then-branch-clause-at
 returns-then-branch-clause-at c tokens index looking =
     subst (λ (b : Bool). IsStepped c.args.arrows.now.0 (store_of c.settle.new.store) c.settle.new.arrows.1 c.settle.new.self tokens index c.args.token.now (Some b)) c.if-branch.true (c.in_ok-settle.ensures.at tokens index looking)
 
-pub close-requires : goal.close-requires
-close-requires c =
+pub close-requires-clause-starts : goal.close-requires-clause-starts
+close-requires-clause-starts c =
     let at = c.requires.at in
     let stepped = c.in_ok-settle.ensures.at at.0 at.1 at.3 in
     let stuck = subst (λ (b : Bool). IsStepped c.args.arrows.now.0 (store_of c.settle.new.store) c.settle.new.arrows.1 c.settle.new.self at.0 at.1 c.args.token.now (Some b)) c.if-branch.false stepped in

@@ -1,95 +1,56 @@
-use Rattle.std.proofs.Common.{◌≡◌, ◌<◌, ◌-◌, ℕ, List, Some, slice_get, length, sym, ap, ◌∙◌, subst, arith}
-use Rattle.std.specs.Option.{option_map}
-use Rattle.std.proofs.lemmas.List.{length-take}
-use Rattle.grammar_data.specs.declared.rule.Sym.{Sym}
-use Rattle.grammar_data.specs.declared.rule.Sym.TheVariants.{Name}
-use Rattle.grammar_data.specs.Grammar.{Rule}
-use Rattle.map_theory.specs.Relations.{IsThenSymbol}
+use Rattle.std.proofs.Common.{◌≡◌, ◌<◌, ◌∷◌, [], length, sym, subst, arith}
+use Rattle.leaf_laws.specs.Leaves.{HasStart, NoneErrs}
+use Rattle.map_theory.specs.Agreements.{AllReduce}
 use Rattle.node_store.specs.Chunks.{store_of}
 use Rattle.table_data.specs.Tables.{Tables}
-use Rattle.arrow_table.specs.Looks.{HasMap, map_at}
-use Rattle.segment_parser.specs.Working.{last_id, AreThere, IsFreshAt}
-use Rattle.segment_parser.proofs.ReduceLemmas.{rule_inside, taken_there, fresh_there, fresh_length, last_inside, some_taken, reduce_some_at}
-use Rattle.segment_parser.proofs.OpenLemmas.{reduce_some_open}
-use Rattle.segment_parser.proofs.HeldLemmas.{grows_then}
+use Rattle.arrow_table.specs.Looks.{map_at}
+use Rattle.segment_parser.specs.Opening.{IsOpenIn}
+use Rattle.segment_parser.specs.Standing.{last_in, piece_in, IsAt}
+use Rattle.segment_parser.specs.Working.{last_id}
+use Rattle.segment_parser.proofs.RetraceLemmas.{last_stays}
 use Rattle.segment_parser.proofs.leaf.Leaf.reduce_some.Goals as goal
 
-pub freshen-requires-clause-there : goal.freshen-requires-clause-there
-freshen-requires-clause-there c = subst (λ l. AreThere c.args.arrows.now.1 l) (sym c.in_ok-node.ensures.ids) (taken_there c.args.arrows.now.1 c.args.self.now.ids.items (length c.args.self.now.ids.items - c.args.count) c.requires.maps.there)
-
-pub freshen-requires-clause-starts : goal.freshen-requires-clause-starts
-freshen-requires-clause-starts c = subst (λ (k : ℕ). k < length c.args.arrows.now.1) (sym c.in_ok-node.ensures.same.starts) c.requires.maps.starts
-
-pub left-name-requires : goal.left-name-requires
-left-name-requires c = subst (λ (t : Tables). c.args.rule < length t.rules) (sym (c.tables.ensures ∙ c.freshen.ensures.tables)) (rule_inside c.requires.rule.2)
-
-pub put_node-requires-clause-below : goal.put_node-requires-clause-below
-put_node-requires-clause-below c =
-    let maps = c.args.arrows.now.1 in
-    let ids = c.take.new.self.ids.items in
-    let there : AreThere maps ids = subst (λ l. AreThere maps l) (sym c.in_ok-node.ensures.ids) (taken_there maps c.args.self.now.ids.items (length c.args.self.now.ids.items - c.args.count) c.requires.maps.there) in
-    let after : AreThere c.freshen.new.arrows.1 c.freshen.new.self.ids.items = fresh_there maps c.freshen.new.arrows.1 c.take.new.self.starts c.take.new.self.stale c.freshen.new.self.stale (c.len-depth.result - 1) ids c.freshen.new.self.ids.items c.freshen.ensures.grows there c.in_ok-freshen.ensures.fresh in
-    let same = fresh_length maps c.freshen.new.arrows.1 c.take.new.self.starts c.take.new.self.stale c.freshen.new.self.stale (c.len-depth.result - 1) ids c.freshen.new.self.ids.items c.in_ok-freshen.ensures.fresh in
-    let count = ap length c.in_ok-node.ensures.ids ∙ length-take (length c.args.self.now.ids.items - c.args.count) c.args.self.now.ids.items in
-    let less = c.requires.count in
-    let some : 0 < length c.freshen.new.self.ids.items = omega (arith, same, count, less) in
-    subst (λ (k : ℕ). k < length c.freshen.new.arrows.1) (sym c.top-below.ensures) (last_inside c.freshen.new.arrows.1 c.freshen.new.self.ids.items after some)
-
-same_left : {n m : ℕ} (right : List Sym) → option_map {T = Rule} {U = ℕ} (λ rule. rule.0) (Some (n, right)) ≡ Some m → n ≡ m
-same_left right e = cc
-
-pub returns-clause-at : goal.returns-clause-at
-returns-clause-at c tokens w rest token at none all =
-    let t = c.args.arrows.now.0 in
-    let maps = c.args.arrows.now.1 in
-    let mid = c.freshen.new.arrows.1 in
-    let final = c.put_node.new.arrows.1 in
-    let s = c.args.self.now in
-    let s1 = c.take.new.self in
-    let s2 = c.freshen.new.self in
-    let after = c.put_node.new.self in
-    let rule = c.requires.rule in
-    let put = c.in_ok-put_node.ensures in
-    let depth : c.len-depth.result - 1 ≡ length s1.ids.items - 1 = let e = c.len-depth.ensures in let f = s1.ids.ok.0 in omega (arith, e, f) in
-    let fresh : IsFreshAt maps mid s1.starts s1.stale s2.stale (length s1.ids.items - 1) s1.ids.items s2.ids.items = subst (λ (k : ℕ). IsFreshAt maps mid s1.starts s1.stale s2.stale k s1.ids.items s2.ids.items) depth c.in_ok-freshen.ensures.fresh in
-    let same_tables : c.freshen.new.arrows.0 ≡ t = c.freshen.ensures.tables in
-    let here : c.tables.result.now ≡ t = c.tables.ensures ∙ same_tables in
-    let name : rule.0 ≡ c.left-name.result = same_left rule.1 (sym (ap (λ o. option_map {T = Rule} {U = ℕ} (λ r. r.0) o) rule.2.found) ∙ ap (λ (x : Tables). option_map {T = Rule} {U = ℕ} (λ r. r.0) (slice_get x.rules c.args.rule)) (sym here) ∙ c.left-name.ensures.left) in
-    let to = put.ids.0 in
-    let goes1 : HasMap final to (IsThenSymbol t (Name c.left-name.result) (map_at mid c.top-below.result)) = subst (λ (x : Tables). HasMap final to (IsThenSymbol x (Name c.left-name.result) (map_at mid c.top-below.result))) same_tables put.ids.2 in
-    let goes2 : HasMap final to (IsThenSymbol t (Name rule.0) (map_at mid c.top-below.result)) = subst (λ (x : ℕ). HasMap final to (IsThenSymbol t (Name x) (map_at mid c.top-below.result))) (sym name) goes1 in
-    let goes : HasMap final to (IsThenSymbol t (Name rule.0) (map_at mid (last_id s2.ids.items))) = subst (λ (x : ℕ). HasMap final to (IsThenSymbol t (Name rule.0) (map_at mid x))) c.top-below.ensures goes2 in
-    let grows = grows_then maps mid final c.freshen.ensures.grows c.put_node.ensures.grows in
-    let taken = some_taken t (store_of c.args.store.now) (store_of c.take.new.store) maps mid final s s1 s2 after c.args.rule rule.0 c.args.count c.in_ok-node.node to c.requires.count c.requires.maps
-    c.in_ok-node.ensures.same c.in_ok-node.ensures.stale c.in_ok-node.ensures.count c.in_ok-node.ensures.kids c.in_ok-node.ensures.ids c.in_ok-node.ensures.trees
-    c.freshen.ensures.grows fresh c.freshen.ensures.same (ap (λ b. b.kids) c.freshen.ensures.block) c.freshen.ensures.count
-    c.put_node.ensures.grows put.same put.stale put.count put.kids put.ids.1 goes in
-    reduce_some_at t c.requires.lawful (store_of c.args.store.now) (store_of c.take.new.store) maps final s after c.args.rule rule.0 c.args.count rule.1 c.in_ok-node.node rule.2 rule.3 c.requires.count grows taken tokens w rest token at none all
+pub returns-clause-levels : goal.returns-clause-levels
+returns-clause-levels c all = c.in_ok-reduce_kept.ensures.levels (c.in_ok-retrace.ensures.levels all)
 
 pub returns-clause-open : goal.returns-clause-open
 returns-clause-open c nodes front w token is none all =
     let t = c.args.arrows.now.0 in
     let maps = c.args.arrows.now.1 in
-    let mid = c.freshen.new.arrows.1 in
-    let final = c.put_node.new.arrows.1 in
+    let mid = c.retrace.new.arrows.1 in
+    let final = c.reduce_kept.new.arrows.1 in
+    let store = store_of c.args.store.now in
+    let new = store_of c.reduce_kept.new.store in
     let s = c.args.self.now in
-    let s1 = c.take.new.self in
-    let s2 = c.freshen.new.self in
-    let after = c.put_node.new.self in
-    let rule = c.requires.rule in
-    let put = c.in_ok-put_node.ensures in
-    let depth : c.len-depth.result - 1 ≡ length s1.ids.items - 1 = let e = c.len-depth.ensures in let f = s1.ids.ok.0 in omega (arith, e, f) in
-    let fresh : IsFreshAt maps mid s1.starts s1.stale s2.stale (length s1.ids.items - 1) s1.ids.items s2.ids.items = subst (λ (k : ℕ). IsFreshAt maps mid s1.starts s1.stale s2.stale k s1.ids.items s2.ids.items) depth c.in_ok-freshen.ensures.fresh in
-    let same_tables : c.freshen.new.arrows.0 ≡ t = c.freshen.ensures.tables in
-    let here : c.tables.result.now ≡ t = c.tables.ensures ∙ same_tables in
-    let name : rule.0 ≡ c.left-name.result = same_left rule.1 (sym (ap (λ o. option_map {T = Rule} {U = ℕ} (λ r. r.0) o) rule.2.found) ∙ ap (λ (x : Tables). option_map {T = Rule} {U = ℕ} (λ r. r.0) (slice_get x.rules c.args.rule)) (sym here) ∙ c.left-name.ensures.left) in
-    let to = put.ids.0 in
-    let goes1 : HasMap final to (IsThenSymbol t (Name c.left-name.result) (map_at mid c.top-below.result)) = subst (λ (x : Tables). HasMap final to (IsThenSymbol x (Name c.left-name.result) (map_at mid c.top-below.result))) same_tables put.ids.2 in
-    let goes2 : HasMap final to (IsThenSymbol t (Name rule.0) (map_at mid c.top-below.result)) = subst (λ (x : ℕ). HasMap final to (IsThenSymbol t (Name x) (map_at mid c.top-below.result))) (sym name) goes1 in
-    let goes : HasMap final to (IsThenSymbol t (Name rule.0) (map_at mid (last_id s2.ids.items))) = subst (λ (x : ℕ). HasMap final to (IsThenSymbol t (Name rule.0) (map_at mid x))) c.top-below.ensures goes2 in
-    let grows = grows_then maps mid final c.freshen.ensures.grows c.put_node.ensures.grows in
-    let taken = some_taken t (store_of c.args.store.now) (store_of c.take.new.store) maps mid final s s1 s2 after c.args.rule rule.0 c.args.count c.in_ok-node.node to c.requires.count c.requires.maps
-    c.in_ok-node.ensures.same c.in_ok-node.ensures.stale c.in_ok-node.ensures.count c.in_ok-node.ensures.kids c.in_ok-node.ensures.ids c.in_ok-node.ensures.trees
-    c.freshen.ensures.grows fresh c.freshen.ensures.same (ap (λ b. b.kids) c.freshen.ensures.block) c.freshen.ensures.count
-    c.put_node.ensures.grows put.same put.stale put.count put.kids put.ids.1 goes in
-    reduce_some_open t c.requires.lawful (store_of c.args.store.now) (store_of c.take.new.store) maps final s after c.args.rule rule.0 c.args.count rule.1 c.in_ok-node.node rule.2 rule.3 c.requires.count grows taken nodes front w token is none all
+    let s1 = c.retrace.new.self in
+    let after = c.reduce_kept.new.self in
+    let rule = c.args.rule in
+    let less = c.requires.count in
+    let some : 0 < length s.ids.items = omega (arith, less) in
+    let same : map_at mid (last_id s1.ids.items) ≡ map_at maps (last_id s.ids.items) = last_stays maps mid s s1 c.retrace.ensures.grows c.requires.maps some c.in_ok-retrace.ensures.last in
+    let top = map_at mid (last_id s1.ids.items) in
+    let none1 : NoneErrs t token.id top = subst (λ m. NoneErrs t token.id m) (sym same) none in
+    let all1 : AllReduce t token.id rule top = subst (λ m. AllReduce t token.id rule m) (sym same) all in
+    let reduces : IsOpenIn t store mid s1 nodes front w (token ∷ []) → NoneErrs t token.id top → AllReduce t token.id rule top → IsOpenIn t new final after nodes front w (token ∷ []) = subst (λ (x : Tables). IsOpenIn x store mid s1 nodes front w (token ∷ []) → NoneErrs x token.id top → AllReduce x token.id rule top → IsOpenIn x new final after nodes front w (token ∷ [])) c.retrace.ensures.tables (c.in_ok-reduce_kept.ensures.open nodes front w token) in
+    reduces (c.in_ok-retrace.ensures.open nodes front w (token ∷ []) is) none1 all1
+
+pub returns-clause-at : goal.returns-clause-at
+returns-clause-at c tokens w rest token at none all =
+    let t = c.args.arrows.now.0 in
+    let maps = c.args.arrows.now.1 in
+    let mid = c.retrace.new.arrows.1 in
+    let final = c.reduce_kept.new.arrows.1 in
+    let store = store_of c.args.store.now in
+    let new = store_of c.reduce_kept.new.store in
+    let s = c.args.self.now in
+    let s1 = c.retrace.new.self in
+    let after = c.reduce_kept.new.self in
+    let rule = c.args.rule in
+    let less = c.requires.count in
+    let some : 0 < length s.ids.items = omega (arith, less) in
+    let same : map_at mid (last_id s1.ids.items) ≡ map_at maps (last_id s.ids.items) = last_stays maps mid s s1 c.retrace.ensures.grows c.requires.maps some c.in_ok-retrace.ensures.last in
+    let top = map_at mid (last_id s1.ids.items) in
+    let none1 : NoneErrs t token.id top = subst (λ m. NoneErrs t token.id m) (sym same) none in
+    let all1 : AllReduce t token.id rule top = subst (λ m. AllReduce t token.id rule m) (sym same) all in
+    let reduces : IsAt t store mid s1 tokens w rest (token ∷ []) → NoneErrs t token.id top → AllReduce t token.id rule top → IsAt t new final after tokens w rest (token ∷ []) × HasStart t (piece_in final after) w (last_in final after) = subst (λ (x : Tables). IsAt x store mid s1 tokens w rest (token ∷ []) → NoneErrs x token.id top → AllReduce x token.id rule top → IsAt x new final after tokens w rest (token ∷ []) × HasStart x (piece_in final after) w (last_in final after)) c.retrace.ensures.tables (c.in_ok-reduce_kept.ensures.at tokens w rest token) in
+    reduces (c.in_ok-retrace.ensures.at tokens w rest (token ∷ []) at) none1 all1

@@ -48,4 +48,6 @@ loop-preserved c =
           let here : IsLooking c.loop.arrows.0 (store_of c.loop.store) c.loop.arrows.1 c.loop.self tokens index token = subst (λ t. IsLooking t (store_of c.loop.store) c.loop.arrows.1 c.loop.self tokens index token) (sym c.loop.invariant.0) (c.loop.invariant.3 tokens index looking) in
           let stepped : IsStepped c.loop.arrows.0 store maps s tokens index token None = subst (λ (o : Option Bool). IsStepped c.loop.arrows.0 store maps s tokens index token o) c.in-None.is (c.in_ok-shifted.ensures.at tokens index here) in
           subst (λ t. IsLooking t store maps s tokens index token) c.loop.invariant.0 stepped),
+      c.step.ensures.base ∙ c.loop.invariant.4,
+      c.in_ok-shifted.ensures.stand,
     )

@@ -1,8 +1,11 @@
-use Rattle.std.proofs.Common.{ℕ, subst}
+use Rattle.std.proofs.Common.{ℕ, All, sym, subst}
 use Rattle.node_store.specs.Chunks.{store_of}
 use Rattle.arrow_table.specs.declared.look.Look.TheVariants as look
 use Rattle.arrow_table.specs.Looks.{IsLook, map_at}
 use Rattle.segment_parser.specs.Working.{last_id}
+use Rattle.table_data.specs.Tables.{Tables}
+use Rattle.segment_parser.specs.Entering.{IsKnown}
+use Rattle.segment_parser.proofs.RetraceLemmas.{leaf_known}
 use Rattle.segment_parser.proofs.SettleLemmas.{died_step, reduced_step, shifted_step, stuck_step}
 use Rattle.segment_parser.proofs.leaf.Leaf.step.Goals as goal
 
@@ -58,3 +61,10 @@ returns-in-Stuck-clause-at c tokens index looking =
     let looked : IsLook t token.id (map_at maps (last_id s.ids.items)) mid c.in_ok-alive.field-0 = subst (λ (i : ℕ). IsLook t token.id (map_at maps i) mid c.in_ok-alive.field-0) c.top.ensures c.in_ok-alive.ensures.look in
     let is : IsLook t token.id (map_at maps (last_id s.ids.items)) mid look.Stuck = subst (λ x. IsLook t token.id (map_at maps (last_id s.ids.items)) mid x) c.in-Stuck.is looked in
     stuck_step t (store_of c.args.store.now) maps mid s tokens index token c.look.ensures.grows is.1 looking
+
+pub reduce-requires-clause-known : goal.reduce-requires-clause-known
+reduce-requires-clause-known c =
+    let at = c.requires.at.3.at in
+    let s = c.args.self.now in
+    let store = store_of c.args.store.now in
+    subst (λ (x : Tables). All (IsKnown x.rules store) s.block.kids) (sym c.look.ensures.tables) (leaf_known c.args.arrows.now.1 s at.has.even at.leaf.growing)

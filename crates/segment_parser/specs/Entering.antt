@@ -1,5 +1,4 @@
--- A closed piece is opened again: the maps over its entries, which it doesn't keep, are walked from its last floor's starts
--- along the symbols of its kids.
+-- Maps over entries that aren't kept are walked again from a map below, along the symbols of the entries' kids.
 use Rattle.std.specs.Prelude.{◌≡◌, ℕ, ◌<◌, List, [], ◌∷◌, All, Option, length}
 use Rattle.grammar_data.specs.declared.rule.Sym.{Sym}
 use Rattle.grammar_data.specs.Grammar.{Rule}

@@ -1,8 +1,8 @@
 -- Maps over entries, one after the other.
-use Rattle.std.proofs.Common.{◌≡◌, ℕ, ◌<◌, List, [], ◌∷◌, ◌++◌, length, All, Option, refl, sym, ap, ◌∙◌, subst, arith}
+use Rattle.std.proofs.Common.{◌≡◌, ℕ, ◌<◌, List, [], ◌∷◌, ◌++◌, length, Option, refl, sym, ap, ◌∙◌, subst, arith}
 use Rattle.std.specs.Prelude.{option_and_then}
-use Rattle.std.proofs.lemmas.List.{get_or_append_left, length-append, length_push}
-use Rattle.std.proofs.lemmas.List.Elements.{All-head, All-tail, All-push, All-nil, All-weaker}
+use Rattle.std.proofs.lemmas.List.{length-append, length_push}
+use Rattle.std.proofs.lemmas.List.Elements.{All-push, All-nil, All-weaker}
 use Rattle.grammar_data.specs.declared.rule.Sym.{Sym}
 use Rattle.node_data.specs.declared.kid.Kid.{Kid}
 use Rattle.tree_theory.specs.Stores.{Store}
@@ -14,34 +14,14 @@ use Rattle.piece_theory.specs.Applies.{HasSymbol}
 use Rattle.piece_theory.specs.WellMade.{AreSteps, no_step, step_on}
 use Rattle.arrow_table.specs.Looks.{Grows, HasMap, map_at}
 use Rattle.segment_parser.specs.Working.{held_of}
-use Rattle.stack_join.specs.Entering.{over_all, AreEntered}
-
--- ---- more maps
-
-pub stays : (maps new : List StateMap) → Grows maps new → (id : ℕ) → id < length maps → map_at new id ≡ map_at maps id
-stays maps new grows id inside = ap (λ l. map_at l id) grows.1 ∙ get_or_append_left maps grows.0 [] id inside
-
-pub entries_stay : (maps new : List StateMap) → Grows maps new → (kids : List Kid) (ids : List ℕ) → All {X = ℕ} (λ id. id < length maps) ids → held_of new kids ids ≡ held_of maps kids ids
-entries_stay maps new grows [] ids there = refl
-entries_stay maps new grows (kid ∷ kids) [] there = refl
-entries_stay maps new grows (kid ∷ kids) (id ∷ ids) there =
-    let first = stays maps new grows id (All-head {X = ℕ} (λ n. n < length maps) id ids there) in
-    let rest = entries_stay maps new grows kids ids (All-tail {X = ℕ} (λ n. n < length maps) id ids there) in
-    λ i. record { kid = kid; states = first i } ∷ rest i
-
-pub entries_push : (maps : List StateMap) (kids : List Kid) (ids : List ℕ) (kid : Kid) (id : ℕ) → length ids ≡ length kids → held_of maps (kids ++ kid ∷ []) (ids ++ id ∷ []) ≡ held_of maps kids ids ++ record { kid = kid; states = map_at maps id } ∷ []
-entries_push maps [] [] kid id e = refl
-entries_push maps [] (x ∷ ids) kid id e = absurd (omega (arith, e))
-entries_push maps (k ∷ kids) [] kid id e = absurd (omega (arith, e))
-entries_push maps (k ∷ kids) (x ∷ ids) kid id e = ap (λ l. record { kid = k; states = map_at maps x } ∷ l) (entries_push maps kids ids kid id (omega (arith, e)))
-
--- ---- one entry more
+use Rattle.segment_parser.specs.Entering.{over_all, AreEntered}
+use Rattle.segment_parser.proofs.HeldLemmas.{held_grows, held_push}
 
 steps_push : {t : Tables} {store : Store} {hs : List Held} {from : ℕ → Option ℕ} → AreSteps t store from hs → (x : Sym) (h : Held) (below : StateMap) → ((q : ℕ) → target below q ≡ over_all from hs q) → HasSymbol t.rules store h.kid x → IsThenSymbol t x below h.states → AreSteps t store from (hs ++ h ∷ [])
 steps_push {t} no_step x h below same symbol map = step_on x symbol map.rising (λ q. map.targets q ∙ ap (option_and_then (λ p. step_by t p x)) (same q)) no_step
 steps_push (step_on y has rising at more) x h below same symbol map = step_on y has rising at (steps_push more x h below same symbol map)
 
-over_push : (from : ℕ → Option ℕ) (hs : List Held) (h : Held) (q : ℕ) → over_all from (hs ++ h ∷ []) q ≡ target h.states q
+pub over_push : (from : ℕ → Option ℕ) (hs : List Held) (h : Held) (q : ℕ) → over_all from (hs ++ h ∷ []) q ≡ target h.states q
 over_push from [] h q = refl
 over_push from (g ∷ hs) h q = over_push (target g.states) hs h q
 
@@ -60,9 +40,9 @@ enters_none t store maps own inside = record {
 
 pub enters_more : (t : Tables) (store : Store) (from : ℕ → Option ℕ) (maps new : List StateMap) (kids : List Kid) (ids : List ℕ) (top to : ℕ) (kid : Kid) (x : Sym) → Grows maps new → EntersTo t store from maps kids ids top → HasSymbol t.rules store kid x → HasMap new to (IsThenSymbol t x (map_at maps top)) → EntersTo t store from new (kids ++ kid ∷ []) (ids ++ to ∷ []) to
 enters_more t store from maps new kids ids top to kid x grows before symbol has =
-    let stay = entries_stay maps new grows kids ids before.entered.there in
+    let stay = held_grows maps new grows kids ids before.entered.there in
     let count = ap length grows.1 ∙ length-append maps grows.0 in
-    let push = entries_push new kids ids kid to before.entered.even ∙ ap (λ l. l ++ record { kid = kid; states = map_at new to } ∷ []) stay in
+    let push = held_push new kids ids kid to (sym before.entered.even) ∙ ap (λ l. l ++ record { kid = kid; states = map_at new to } ∷ []) stay in
     let ids_count = length_push ids to in
     let kids_count = length_push kids kid in
     let even = before.entered.even in
