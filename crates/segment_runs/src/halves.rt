@@ -20,6 +20,17 @@ fn is_alone(first: u32, last: u32, workers: u32) -> bool
     workers == 1 || last - first == 1
 }
 
+/// So many workers for the first half of the segments, and for the second, which gets the odd one.
+fn split_workers(workers: u32) -> (u32, u32)
+    requires { 2 ≤ workers }
+    ensures all { result.0 + result.1 ≡ workers }
+    ensures some { 1 ≤ result.0 }
+    ensures even { (result.1 ≡ result.0) ⊎ (result.1 ≡ result.0 + 1) }
+{
+    let few = workers / 2;
+    (few, workers - few)
+}
+
 /// The segments from `first` up to `last`, by a table of maps of their own.
 fn parse_alone(alloc: Global, job: &Job<'_>, first: u32, last: u32) -> Result<Joined, NoMemory>
     requires can { CanRun job.now }
@@ -70,8 +81,7 @@ pub fn parse_halves<R: Threads + Sync>(
         return parse_alone(alloc, job, first, last);
     }
     let middle = middle_of(first, last);
-    let few = workers / 2;
-    let others = workers - few;
+    let (few, others) = split_workers(workers);
     let front = move || -> Result<Joined, NoMemory>
         requires { IsSync R.row × CanRun job.now × (first < middle) × (1 ≤ few) × (middle ≤ segments_of job.now.cutting.now) }
         ensures { IfOk result (IsJoined job.entry.now first middle) }

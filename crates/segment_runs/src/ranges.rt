@@ -1,4 +1,4 @@
-ghost use Rattle.std.specs.Prelude.{◌≡◌, ◌+◌, ◌<◌, ◌≤◌, IfOk};
+ghost use Rattle.std.specs.Prelude.{◌≡◌, ◌+◌, ◌-◌, ◌/◌, ◌<◌, ◌≤◌, IfOk};
 ghost use Rattle.arrow_table.specs.Looks.{Grows};
 ghost use Rattle.cutting_theory.specs.Cuttings.{segments_of};
 ghost use Rattle.segment_counts.specs.Ranges.{CanRun};
@@ -13,6 +13,7 @@ use std::alloc::Global;
 /// The segment in the middle between two, with which the second half begins.
 pub fn middle_of(first: u32, last: u32) -> u32
     requires { first + 1 < last }
+    ensures middle { result ≡ first + (last - first) / 2 }
     ensures after { first < result }
     ensures before { result < last }
 {
@@ -33,6 +34,7 @@ pub fn parse_range(
     requires within { last ≤ segments_of job.now.cutting.now }
     requires tables { arrows.old.0 ≡ job.now.tables.now }
     ensures tables { arrows.new.0 ≡ arrows.old.0 }
+    ensures grows { Grows arrows.old.1 arrows.new.1 }
     ensures joined { IfOk result (IsJoined job.now first last) }
 {
     if last - first == 1 {
