@@ -34,13 +34,24 @@ fn next(number: u64) -> u64
     number.wrapping_mul(MULTIPLIER).wrapping_add(INCREMENT)
 }
 
-/// Which of so many a number picks.
+/// Which of so many a number picks. A remainder by a number that is written here costs no division.
 fn pick(number: u64, count: usize) -> usize
     requires { 0 < count }
     ensures picked { result ≡ picked number count }
     ensures inside { result < count }
 {
-    (number / LOW_BITS) as usize % count
+    let upper = (number / LOW_BITS) as usize;
+    match count {
+        1 => 0,
+        2 => upper % 2,
+        3 => upper % 3,
+        4 => upper % 4,
+        5 => upper % 5,
+        6 => upper % 6,
+        7 => upper % 7,
+        8 => upper % 8,
+        _ => upper % count,
+    }
 }
 
 /// What rules are chosen from: those of each name, the closing rules, and how many choices are drawn at the most.
