@@ -16,6 +16,13 @@ atom : NUMBER | NAME { "v" #1 } | '(' sum ')' { $2 } ;
 """
 
 
+# A right-linear grammar: its names are ten places, 'a' moves each to the next, 'b' swaps the first two, and 'e' ends. So each word of a and b is a permutation of the places, of which there are
+# 3,628,800, and what stands on top after a word, over all states that may stand below, is hardly ever the same twice.
+PLACES = 10
+SWAPPED = (1, 0) + tuple(range(2, PLACES))
+PERMUTED = '%skip / +/\n%%\n' + ''.join("p%d : 'a' p%d | 'b' p%d | 'e' ;\n" % (at, (at + 1) % PLACES, SWAPPED[at]) for at in range(PLACES))
+
+
 def filled(size, draw, piece, before='', between='', behind=''):
     """Pieces, one after another, as many as there is room for."""
     pieces, length = [], len(before) + len(behind)
@@ -156,3 +163,8 @@ def settings(size):
         return '%s%s-%s = %s%s\n' % ('  ' * depth, draw.choice(words), draw.choice(words), value(draw), '' if draw.randrange(9) else '   # ' + draw.choice(words))
 
     return filled(size, random.Random(size), lambda draw: setting(draw, 0))
+
+
+def permuted(size):
+    draw = random.Random(size)
+    return ''.join(draw.choice('ab') for _ in range(size - 2)) + 'e\n'

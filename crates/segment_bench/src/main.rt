@@ -1,12 +1,14 @@
 //! Times the parse of a text's tokens in segments, each for all left contexts at once, beside the parse of the same tokens from
 //! left to right, in turns. The words are the file of a sheet, the file of a text, the number of segments and the number of
-//! turns. The output says what the segments are parsed into; the error output has a line a turn with the two times, in
-//! microseconds of the processor.
+//! turns. The output says what the segments are parsed into; the error output has a line with the pages of memory that the
+//! process takes, where the system says that, before a parse in segments, behind it, and behind a second one by the same table
+//! of maps; and then a line a turn with the two times, in microseconds of the processor.
 #![tactic(auto)]
 
 mod counts;
 mod fault;
 mod input;
+mod resident;
 mod turns;
 mod words;
 
@@ -26,7 +28,7 @@ fn words_of<R: Env + AllocGlobal>(rt: &R) -> io::Result<Vec<String>> {
     Ok(env::args(rt)?.skip(1).collect(rt.alloc())?)
 }
 
-/// What the segments of the named text are parsed into, after so many turns.
+/// What the segments of the named text are parsed into, where so many turns were taken.
 fn measure<R: Files + Env + CpuClock + Eprint + AllocGlobal>(rt: &R) -> Result<Counts, Fault> {
     let alloc = rt.alloc();
     let given = words_of(rt)?;

@@ -1,4 +1,4 @@
-use Rattle.std.proofs.Common.{◌+◌, ◌-◌, ◌<◌}
+use Rattle.std.proofs.Common.{◌-◌, ◌<◌}
 use Rattle.std.specs.Prelude.{◌^◌, All}
 use Rattle.grammar_data.specs.declared.token.Token.{Token as TextToken}
 use Rattle.plain_parse.specs.Parses.{AreTextTokens}

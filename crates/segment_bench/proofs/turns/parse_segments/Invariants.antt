@@ -5,4 +5,4 @@ use Rattle.lr_base.specs.declared.limits.TheConstants.{TEXT_BYTES}
 use Rattle.segment_bench.proofs.turns.parse_segments.Given as goal
 
 abbrev pub invariant-loop-place : goal.invariant-loop-place
-invariant-loop-place l = (l.arrows.0 ≡ l.tables) × (length l.rest ≤ TEXT_BYTES) × All {X = TextToken} (λ token. token.id < 2 ^ 32 - 2) l.rest
+invariant-loop-place l = (l.arrows.0 ≡ l.initial.arrows.0) × (length l.rest ≤ TEXT_BYTES) × All {X = TextToken} (λ token. token.id < 2 ^ 32 - 2) l.rest
